@@ -1,6 +1,7 @@
 """Tables of Debian's packages: each is made as a CSV file, unless it exists."""
 import bz2
 import csv
+import datetime
 import os
 import pathlib
 import random
@@ -92,9 +93,29 @@ def million() -> Rows:
         yield (f"{draw.choice('abcdefgh')}{draw.randrange(10 ** 11):011}x{number % 10}",)
 
 
+def measures() -> Rows:
+    """Yields a million distinct floats and times."""
+    draw, moment = random.Random(5), datetime.datetime(2024, 1, 1)
+    yield "number", "moment"
+    for _ in range(1_000_000):
+        moment += datetime.timedelta(milliseconds=draw.randrange(1, 900))
+        yield repr(draw.gauss(0, 1000)), moment.isoformat(" ", "milliseconds")
+
+
+def whole() -> Rows:
+    """Yields two million ids beside whole numbers, a tenth of one column's null."""
+    draw = random.Random(6)
+    yield "id,a,b,c,d,e".split(",")
+    for number in range(2_000_000):
+        yield (10 ** 9 + number * 3, draw.randrange(100), draw.randrange(-1000, 1000),
+               draw.randrange(10 ** 9), draw.randrange(5),
+               draw.randrange(10 ** 6) if draw.random() < .9 else "")
+
+
 TABLES: Dict[str, Callable[[], Rows]] = {
     "geoip": geoip, "Fertility": fertility, "file listing": listing, "packages": packages,
-    "Unihan": unihan, "a million texts": million}
+    "Unihan": unihan, "a million texts": million, "floats and times": measures,
+    "whole numbers": whole}
 
 
 def made(folder: pathlib.Path, name: str) -> Optional[pathlib.Path]:

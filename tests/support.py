@@ -24,9 +24,10 @@ import warnings
 from typing import Any, Callable, Iterable, NamedTuple, Sequence, TypeVar
 
 import bwtools
-from bwtools import importing, kinds, writing
+from bwtools import importing, kinds
 from bwtools.options import add_options, parsed
 from bwtools._cli import import_
+from bwtools.loader.table import Table, write_numbers
 from bwtools.sorted_list import SortedList
 from bwtools.source import Source
 from bwtools.telling import Refused
@@ -288,28 +289,27 @@ class Import:
     def __init__(self, data: str | bytes, *words: str) -> None:
         self.refusal, self.report = "", ""
         try:
-            table = table_of(data if isinstance(data, bytes) else data.encode(), *words)
-            table.write(os.devnull)
+            in_file(data if isinstance(data, bytes) else data.encode(),
+                    lambda path: self.read(path, options(*words)))
         except Refused as refused:
             self.refusal = str(refused).partition(": ")[2]
-            return
+
+    def read(self, path: str, given: argparse.Namespace) -> None:
+        """Imports a file."""
+        table = Table(path, given, pathlib.Path(path).parent)
         with contextlib.redirect_stdout(io.StringIO()) as out:
             table.report()
-        self.report = out.getvalue()
-        self.columns = table.columns
+        self.report, self.columns = out.getvalue(), table.columns
         self.kinds = [column.kind.name for column in table.columns]
-        rows = list(zip(*map(self.joined, zip(*table.chunks()))))
-        self.rows = [",".join(self.back(place, number) for place, number in enumerate(row))
-                     for row in rows]
+        columns = columns_in(table)
         self.numbers = [[int(number) for number in column if number not in ("", "NULL")]
-                        for column in zip(*rows)]
+                        for column in columns]
+        self.rows = [",".join(row) for row in zip(*map(self.back, range(len(columns)), columns))]
 
-    @staticmethod
-    def joined(parts: Any) -> list[str]:
-        return [number for part in parts for number in part]
-
-    def back(self, place: int, number: str) -> str:
-        return "" if number in ("", "NULL") else self.columns[place].kind.text(int(number))
+    def back(self, place: int, column: Sequence[str]) -> list[str]:
+        """Returns the fields of a column of numbers."""
+        rest = iter(self.columns[place].kind.spell(self.numbers[place]))
+        return ["" if number in ("", "NULL") else next(rest) for number in column]
 
     def greatest(self, place: int) -> str:
         """Returns MAX of a column, as it is printed."""
@@ -340,17 +340,23 @@ def source_of(data: bytes, *words: str) -> Source:
     return in_file(data, lambda path: Source(path, options(*words)))
 
 
-def table_of(data: bytes, *words: str) -> writing.NumberTable:
+def table_of(data: bytes, *words: str) -> Table:
     """Returns the table of a file of these bytes."""
-    return in_file(data, lambda path: writing.NumberTable(path, options(*words)))
+    return in_file(data, lambda path: Table(path, options(*words), pathlib.Path(path).parent))
+
+
+def columns_in(table: Table) -> list[list[str]]:
+    """Returns the columns of numbers of a table."""
+    path = table.folder / "numbers.csv"
+    write_numbers(table, table.folder, path)
+    rows = [line.split(",") for line in path.read_text(encoding="ascii").splitlines()[1:]]
+    return [list(column) for column in zip(*rows)] or [[] for _ in table.columns]
 
 
 def numbers_of(data: bytes, *words: str) -> list[list[str]]:
     """Returns the columns of numbers of a file of these bytes."""
-    columns: list[list[str]] = []
-    for chunk in table_of(data, *words).chunks():
-        columns = [[*first, *then] for first, then in zip(columns or [[] for _ in chunk], chunk)]
-    return columns
+    return in_file(data, lambda path: columns_in(Table(path, options(*words),
+                                                       pathlib.Path(path).parent)))
 
 
 def texts(*values: str) -> kinds.Texts:

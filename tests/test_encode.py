@@ -55,8 +55,40 @@ def is_of_numbers(fields: list[bytes]) -> bool:
         and max(numbers) - min(numbers) < 2**63
 
 
+class Selection(NamedTuple):
+    """The rows and the fields that are encoded, and whether short records are filled."""
+
+    rows: Optional[int] = None
+    columns: Optional[list[int]] = None
+    is_filled: bool = False
+
+    @classmethod
+    def drawn(cls, draw: random.Random, width: int, height: int) -> Selection:
+        columns = draw.sample(range(width), draw.randint(1, width))
+        return cls(draw.choice([None, None, 0, 1, height, draw.randrange(height + 3)]),
+                   draw.choice([None, columns]), draw.random() < 0.4)
+
+    def words(self) -> list[str]:
+        return [*([] if self.rows is None else ["--rows", str(self.rows)]),
+                *([] if self.columns is None else
+                  ["--columns", ",".join(str(place + 1) for place in self.columns)]),
+                *(["--fill"] if self.is_filled else [])]
+
+    def of(self, rows: list[list[bytes]], width: int) -> list[list[bytes]]:
+        """Returns the fields of the selected rows."""
+        filled = [row + [b""] * (width - len(row)) for row in rows[:self.rows]]
+        return [[row[place] for place in self.columns or range(width)] for row in filled]
+
+
 def parse_fields(data: bytes) -> list[Optional[list[tuple[bytes, int]]]]:
     """Returns for each column None, or its distinct fields and how many rows have each."""
+    columns, end = parse_columns(data)
+    assert end == len(data)
+    return columns
+
+
+def parse_columns(data: bytes) -> tuple[list[Optional[list[tuple[bytes, int]]]], int]:
+    """Returns the columns, and where they end."""
     assert data[:8] == b"BWFIELDS"
     at = 16
 
@@ -78,8 +110,7 @@ def parse_fields(data: bytes) -> list[Optional[list[tuple[bytes, int]]]]:
             found.append((data[at:at + length], times))
             at += length
         columns.append(found)
-    assert at == len(data)
-    return columns
+    return columns, at
 
 
 class Encoded(TestCase):
@@ -109,14 +140,44 @@ class Encoded(TestCase):
         width = draw.randint(1, 5)
         heading = [f"Column {at}".encode() for at in range(width)]
         rows = self.drawn_rows(draw, width)
+        selection = Selection.drawn(draw, width, len(rows))
+        if selection.is_filled:
+            rows = [row[:draw.randint(1, width)] for row in rows]
         end = draw.choice([b"\n", b"\r\n"])
-        lines = [dialect.separator.join(dialect.field(field, draw, width == 1) for field in row)
-                 for row in [heading, *rows]]
-        (folder / "text.csv").write_bytes(end.join(lines) + draw.choice([b"", end]))
-        words = ["encode", *dialect.words(), "text.csv", "table.bw", "fields"]
+        lines = [dialect.separator.join(dialect.field(field, draw, len(row) == 1)
+                                        for field in row) + end for row in [heading, *rows]]
+        if draw.random() < 0.5:
+            lines[-1] = lines[-1][:-len(end)]
+        rest = self.encode(folder, [*dialect.words(), *selection.words()], lines,
+                           selection.of(rows, width), selection.rows)
+        if rest is not None and selection.rows is not None:
+            others = [lines[0], *([rest] if rest else [])]
+            self.encode(folder, [*dialect.words(), *selection._replace(rows=None).words()],
+                        others, selection._replace(rows=None).of(rows[selection.rows:], width))
+
+    def encode(self, folder: pathlib.Path, options: list[str], lines: list[bytes],
+               rows: list[list[bytes]], limit: Optional[int] = None) -> Optional[bytes]:
+        """Compares what a text is encoded as with rows. Returns what is left of it by a limit."""
+        text = b"".join(lines)
+        (folder / "text.csv").write_bytes(text)
+        words = ["encode", *options, "text.csv", "table.bw", "fields"]
         self.assertEqual(bw(*words, cwd=folder), (0, "", ""))
-        lists = parse_fields((folder / "fields").read_bytes())
-        self.assertEqual(len(lists), width)
+        data = (folder / "fields").read_bytes()
+        lists, end = parse_columns(data)
+        self.assert_table(folder, rows, lists)
+        if limit is None:
+            self.assertEqual(end, len(data))
+            return None
+        (stop,) = struct.unpack("<Q", data[end:])
+        wanted = len(b"".join(lines[:limit + 1]))
+        if limit + 1 < len(lines) and text[wanted - 2:wanted] == b"\r\n":
+            wanted -= 1
+        self.assertEqual(stop, wanted)
+        return text[stop:]
+
+    def assert_table(self, folder: pathlib.Path, rows: list[list[bytes]],
+                     lists: list[Optional[list[tuple[bytes, int]]]]) -> None:
+        width = len(lists)
         wanted: list[list[Any]] = []
         for column, found in zip(zip(*rows) if rows else [[]] * width, lists):
             fields = list(column)
@@ -127,6 +188,7 @@ class Encoded(TestCase):
             self.assertEqual(found, sorted(Counter(fields).items()))
             places = {field: place for place, (field, _) in enumerate(found)}
             wanted.append([str(places[field]) for field in fields])
+        self.assertEqual(len(wanted), width)
         table = [[f"c{at + 1}" for at in range(width)], *map(list, zip(*wanted))]
         self.assertEqual(bw("dump", "table.bw", cwd=folder).out,
                          "".join(",".join(row) + "\n" for row in table))
@@ -154,6 +216,10 @@ class Encoded(TestCase):
                 ("a,b\n1,2\n1,2,3\n", [], "203 record length at record 2"),
                 ('a\n"1"2\n', [], "209 csv fault at record 1"),
                 ('a\n"1\n', [], "209 csv fault at record 1"),
+                ("a,b\n1,2,3\n", ["--fill"], "203 record length at record 1"),
+                ("a,b\n1,2\n1\n", ["--rows", "2"], "203 record length at record 2"),
+                ('a\n1\n"1\n', ["--rows", "2"], "209 csv fault at record 2"),
+                ("a,b\n1,2\n", ["--columns", "1,3"], "105 number of columns at record 0"),
                 (",".join(["a"] * 65) + "\n", [], "105 number of columns at record 0")):
             with self.subTest(text=text[:20]):
                 (folder / "text.csv").write_text(text, encoding="ascii")
@@ -163,6 +229,12 @@ class Encoded(TestCase):
         (folder / "text.csv").write_text('a\n"1"2\n"3\n', encoding="ascii")
         done = bw("encode", "--lenient", "text.csv", "table.bw", "fields", cwd=folder)
         self.assertEqual(done, (0, "", ""))
+        for text, options in (("a,b\n1,2\n1\n", ["--rows", "1"]), ('a\n1\n"1\n', ["--rows", "1"]),
+                              ("a,b\n1\n", ["--fill"]),
+                              (",".join(["a"] * 65) + "\n", ["--columns", "65,1"])):
+            (folder / "text.csv").write_text(text, encoding="ascii")
+            done = bw("encode", *options, "text.csv", "table.bw", "fields", cwd=folder)
+            self.assertEqual(done, (0, "", ""), text[:20])
         before = (folder / "text.csv").read_bytes()
         for files in (["text.csv", "text.csv", "f"], ["text.csv", "t.bw", "text.csv"],
                       ["text.csv", "same", "same"], ["text.csv", "t.bw", "./t.bw"]):
@@ -173,3 +245,10 @@ class Encoded(TestCase):
                       ["--escape", '"'], ["--comment", "\n"], ["--separator", "é"]):
             done = bw("encode", *marks, "text.csv", "table.bw", "fields", cwd=folder)
             self.assertEqual(done.status, 2, marks)
+        for option, values in (("--columns", ["", "0", "1,1", "1,", "x", "+1", "1 2",
+                                              ",".join(map(str, range(1, 66)))]),
+                               ("--rows", ["", "-1", "x", "1.0", "16777217", "99999999999"])):
+            for value in values:
+                done = bw("encode", option, value, "text.csv", "table.bw", "f", cwd=folder)
+                self.assertEqual(done.status, 2, (option, value))
+                self.assertFalse((folder / "f").exists())

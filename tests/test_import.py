@@ -284,10 +284,10 @@ class Faults(Tools):
     """A failed or interrupted import leaves everything as it was."""
 
     def begin(self, script):
-        """Begins an import with a program that runs a script in place of `bw load`, and waits until
-        it does."""
+        """Begins an import with a program that runs a script in place of bw, and waits until it
+        does."""
         program, begun = self.folder / "slow", self.folder / "begun"
-        write_script(program, f'[ "$1" = infer ] && exec "{BW}" "$@"\n: > "{begun}"\n{script}')
+        write_script(program, f': > "{begun}"\n{script}')
         running = support.Running("bw-import", "t.csv", "t.bw", cwd=self.folder,
                                   names={"BW": str(program)})
         running.until(begun)
@@ -319,12 +319,13 @@ class Faults(Tools):
     def test_failures(self):
         self.imported(SHOP)
         before = content(self.folder)
-        bad = write_script(self.folder.parent / f"{self.folder.name}.sh",
-                           'if [ "$1" = load ]; then echo "bw: 702 write failed" >&2; exit 5; fi\n'
-                           f'exec "{BW}" "$@"')
-        self.addCleanup(bad.unlink)
-        done = self.imported(SHOP, BW=str(bad))
-        self.assert_refused(done, "bw: 702 write failed\n", status=5)
+        bad = self.folder.parent / f"{self.folder.name}.sh"
+        for name in ("encode", "recode"):
+            write_script(bad, f'if [ "$1" = {name} ]; then echo "bw: 702 write failed" >&2; exit 5'
+                              f'; fi\nexec "{BW}" "$@"')
+            done = self.imported(SHOP, BW=str(bad))
+            bad.unlink()
+            self.assert_refused(done, "bw: 702 write failed\n", status=5)
         self.assertEqual(self.imported(SHOP, BW=f"{self.folder}/none").status, 5)
         self.assertEqual(content(self.folder), before)
         self.assert_refused(self.imported(SHOP + b"5,6\n"), "line 6")

@@ -26,6 +26,8 @@ CALLS = [
     ("direct", ["direct", "trips.schema", "trips.csv", SQL]),
     ("infer", ["infer", "--table", "trips", "trips.csv"]),
     ("load", ["load", "trips.schema", "trips.csv", "OUT"]),
+    ("encode", ["encode", "--fill", "--columns", "3,1", "--rows", "900", "trips.csv", "OUT",
+                "fields"]),
     ("query", ["query", "--stats", "trips.bw", SQL]),
     ("query of rows", ["query", "trips.bw", ROWS]),
     ("query by a file", ["query", "--program", "trips.prog", "trips.bw", SQL]),

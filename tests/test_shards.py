@@ -16,9 +16,6 @@ import subprocess
 import sys
 import time
 import unittest
-from unittest import mock
-
-from bwtools import splitting
 
 from tests import support
 from tests.support import BW, LONGEST, PYTHON, content, tool, write_script
@@ -387,39 +384,6 @@ class Loads(Shards):
 
     def test_over_shards(self):
         self.check(True)
-
-
-@support.each([(f"{rows} rows", rows) for rows in (1, 2, 7, 1000)])
-class Pieces(support.TestCase):
-    """Pieces have at most the given rows and bytes, whatever is written at a time."""
-
-    def check(self, _, rows):
-        chance, found = random.Random(2), []
-
-        class Kept(splitting.Loads):
-            def load(self, piece):
-                piece.out.close()
-                found.append((piece.rows, piece.size, self.csv.read_text()))
-                self.piece = None
-
-        heading = mock.Mock(heading=lambda: "a,b\n")
-        lines = ["a,b\n", *(f"{chance.randrange(10 ** chance.randrange(1, 9))},{number}\n"
-                            for number in range(300))]
-        with mock.patch("bwtools.splitting.MOST_BYTES", 60):
-            pieces, at = Kept(heading, self.new_folder(), "t", rows), 1
-            while at < len(lines):
-                count = chance.randrange(1, 40)
-                pieces.write("".join(lines[at:at + count]))
-                at += count
-            pieces.end()
-        bodies = [text.split("\n", 1)[1] for _, _, text in found]
-        self.assertEqual("".join(bodies), "".join(lines[1:]))
-        for (count, size, text), after in zip(found, [*bodies[1:], None]):
-            self.assertEqual((size, count), (len(text), text.count("\n") - 1))
-            self.assertLessEqual(size, 60)
-            self.assertLessEqual(count, rows)
-            if after is not None:
-                self.assertTrue(len(text) + len(after.split("\n")[0]) + 1 > 60 or count == rows)
 
 
 @functools.lru_cache(None)

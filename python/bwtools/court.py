@@ -2,11 +2,12 @@
 from __future__ import annotations
 
 import itertools
+from dataclasses import dataclass, field
 from typing import Iterable, Optional
 
 from .judges.clocks import ClockJudge
 from .judges.dates import DateJudge
-from .judges.fields import Fields
+from .judges.fields import Fields, Run
 from .judges.judge import Judge
 from .judges.likeness import LIKENESSES
 from .judges.numbers import NumberJudge
@@ -16,12 +17,65 @@ from .judges.wanted import WantedJudge
 from .kinds.nulls import Nulls
 from .moments import is_like_date
 from .naming import option
-from .opinion import DRAWN, MOST_WORDS, Opinion, count_fields, others_of
 from .telling import counted, shown
 from .wishes import BLANKS
 
-# of a run of more texts than these, some are drawn first
-MANY = 1 << 14
+# a column that is mostly of a kind, and has at most so many other words, is refused
+MOST_WORDS = 3
+
+
+@dataclass
+class Opinion:
+    """What one judge thinks of a column: how many of its distinct texts are like its own, how many
+    rows have these, and the first others, of which there may be more. Runs of which few texts can
+    be like its own are left."""
+    judge: Judge
+    likes: int = 0
+    rows: int = 0
+    others: dict[str, None] = field(default_factory=dict)
+    left: set[int] = field(default_factory=set)
+
+    def add(self, run: Run) -> None:
+        """Adds the texts of a run."""
+        known = set(self.judge.like(run.bare))
+        self.likes += len(known)
+        if known:
+            self.rows += sum(itertools.compress(run.counts, map(known.__contains__, run.texts)))
+        if len(self.others) <= MOST_WORDS and len(known) < len(run.bare):
+            others = (text for text in run.bare if text not in known)
+            self.others.update(dict.fromkeys(itertools.islice(others, MOST_WORDS + 1)))
+
+    def leaves(self, number: int, run: Run) -> bool:
+        """Returns whether a run is left, since less than half of its texts, and of its fields, are
+        like the judge's own."""
+        if not run.texts_drawn:
+            return False
+        known = set(self.judge.like(sorted({*run.texts_drawn, *run.rows_drawn})))
+        if any(sum(map(known.__contains__, each)) * 5 >= len(each) * 2
+               for each in (run.texts_drawn, run.rows_drawn)):
+            return False
+        self.left.add(number)
+        self.others.setdefault(next(text for text in run.texts_drawn if text not in known))
+        return True
+
+
+def others_of(column: Fields, opinion: Opinion) -> list[str]:
+    """Returns the first texts that aren't like a judge's own, one more than may be refused."""
+    found = dict(opinion.others)
+    foreign = column.plain.forms - set(opinion.judge.forms)
+    for part in column.parts if foreign else ():
+        if len(found) > MOST_WORDS:
+            break
+        if part.kept and part.kept.form in foreign:
+            bare = (text.strip(BLANKS) for text in column.texts(part))
+            found.update(dict.fromkeys(itertools.islice(
+                (text for text in bare if text not in column.wishes.words), MOST_WORDS + 1)))
+    return list(found)[:MOST_WORDS + 1]
+
+
+def count_fields(column: Fields, opinion: Opinion) -> tuple[int, int]:
+    """Returns how many fields are like a judge's own, and how many there are, without nulls."""
+    return opinion.rows + column.count_rows(opinion.judge.forms), column.filled
 
 
 class Court:
@@ -38,18 +92,17 @@ class Court:
         self.opinions = [] if wishes.is_text else list(map(Opinion, judges))
         self.count = 0
         may_leave = not is_asked and not column.plain.forms
-        for run, (texts, bare) in enumerate(column.each_run()):
-            self.count += len(bare)
-            drawn = column.drawn(run, texts, DRAWN) if may_leave and len(bare) > MANY else []
+        for number, run in enumerate(column.runs):
+            self.count += run.size
             for opinion in self.opinions:
-                if not drawn or not opinion.leaves(run, bare, drawn):
-                    opinion.add(run, texts, bare)
+                if not may_leave or not opinion.leaves(number, run):
+                    opinion.add(run)
         # if other runs have some, all are counted
         late = [opinion for opinion in self.opinions if opinion.left and opinion.likes]
-        for run, (texts, bare) in enumerate(column.each_run() if late else ()):
+        for number, run in enumerate(column.runs if late else ()):
             for opinion in late:
-                if run in opinion.left:
-                    opinion.add(run, texts, bare)
+                if number in opinion.left:
+                    opinion.add(run)
 
     def winner(self) -> Optional[Judge]:
         """Returns the first judge to whom all fields are like its own, if there are any."""
@@ -105,9 +158,9 @@ class Court:
         reads, if they do."""
         column = self.column
         opinions = list(map(Opinion, LIKENESSES))
-        for run, (texts, bare) in enumerate(column.each_run()):
+        for run in column.runs:
             for opinion in opinions:
-                opinion.add(run, texts, bare)
+                opinion.add(run)
         for each, opinion in zip(LIKENESSES, opinions):
             likes, count = count_fields(column, opinion) if opinion.likes else (0, 0)
             are_most = opinion.likes * 2 > self.count and not column.plain.forms
@@ -146,6 +199,4 @@ def nothing(column: Fields) -> Decision:
 
 def words_of(column: Fields) -> list[str]:
     """Returns the words for null that occur in a column."""
-    found = {text.strip(BLANKS) for texts in column.runs.each(column.store)
-             for text in texts} | set(column.plain.nulls)
-    return [word for word in column.wishes.words if word in found]
+    return [word for word in column.wishes.words if word in column.words]

@@ -57,7 +57,7 @@ def decided(source: Source, court: Court, signs: set[str]) -> Verdict:
 def question_of(source: Source, column: Fields, decision: Decision) -> Optional[Question]:
     """Returns what must be asked about a column that became one of texts, or that has no rows."""
     found = None
-    if not decision.why and (decision.kind is None or not source.counts.rows):
+    if not decision.why and (decision.kind is None or not column.rows):
         found = table_question(source, column)
     return found or (text_question(column) if decision.kind is None else None)
 
@@ -71,14 +71,14 @@ def table_question(source: Source, column: Fields) -> Optional[Question]:
     heading = source.headings[0] if source.has_heading else None
     for sign in separators.MORE:
         counts = {separators.count(text, sign) for texts in column.bare() for text in texts}
-        if heading and not source.counts.rows and all(map(is_number, heading.split())):
+        if heading and not column.rows and all(map(is_number, heading.split())):
             # a row, and no heading
             counts = {separators.count(heading, sign)}
         count = counts.pop() if len(counts) == 1 else 0
         # one in all rows but not in the heading may be a name, a time or an address
         if count > 1 or count and (heading is None or separators.count(heading, sign) == count):
             what = f"{count} {sign!r}, which may separate fields"
-            return Question(f"all its rows have {what}" if source.counts.rows else
+            return Question(f"all its rows have {what}" if column.rows else
                             f"the only line has {what}", (),
                             (separators.separator_option(sign),
                              option("--text", column.wishes.heading)))
@@ -93,7 +93,7 @@ def exact(column: Fields, decision: Decision) -> Decision:
     kind, plain = decision.kind, column.plain
     lengths = plain.spans.lengths
     is_odd = any(is_changed(kind, column, text)
-                 for texts in column.runs.each(column.store) for text in texts)
+                 for texts in column.unkept() for text in texts)
     if not is_odd and not plain.padded and not (len(lengths) > 1 and plain.spans.has_zero) and \
             all(restores(kind, shape) for shape in plain.shapes):
         return decision

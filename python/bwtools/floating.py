@@ -8,11 +8,11 @@ from typing import Iterator, Sequence
 
 from .judges.fields import Fields
 from .judges.verdict import Decision
-from .keeping import Numbered, values_of
 from .kinds.doubles import bits_of
 from .kinds.floats import Floats
 from .kinds.ranked import Ranked
 from .kinds.styled import Numbers, Styled
+from .plain import Numbered, values_of
 from .sorted_list import SortedList
 from .style import Style
 
@@ -65,7 +65,7 @@ def reach_of(column: Fields, decision: Decision) -> tuple[float, float, float]:
     for texts in column.bare():
         doubles = [float(style.bare(text) or 0) for text in texts]
         if doubles:
-            least = min(least, min((abs(each) for each in doubles if each), default=math.inf))
+            least = min(least, min(map(float.__abs__, filter(None, doubles)), default=math.inf))
             low, high = min(low, min(doubles)), max(high, max(doubles))
     return least, low, high
 
@@ -74,10 +74,9 @@ def doubles_of(column: Fields, style: Style) -> Iterator[float]:
     """Yields the doubles of a column, each of them once or more."""
     for texts in column.bare():
         yield from (float(style.bare(text) or 0) for text in texts)
-    for place in column.places if column.plain.forms else ():
-        kept = column.store.fields(place)
-        if isinstance(kept, Numbered):
-            yield from numbered_doubles(kept)
+    for part in column.parts:
+        if part.kept:
+            yield from numbered_doubles(part.kept)
 
 
 def numbered_doubles(kept: Numbered) -> Sequence[float]:

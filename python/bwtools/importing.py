@@ -6,21 +6,25 @@ import argparse
 import contextlib
 import os
 import pathlib
-from . import command, inputs, options, pairs, placing
-from .importing_straight import Imported, import_straight
-from .putting import put_many, put_one, refuse_out
+import tempfile
+from typing import Sequence
+
+from . import command, inputs, options, pairs, placing, processes, store
+from .column import Column
+from .loader.encode import processes_for
+from .loader.table import Table
 from .regular import Watched, open_regular
-from .shards import FILE, Folder
+from .shards import FILE, Folder, refuse_folder, shard_file
 from .store import MOST_TABLES, Store, TableFile
 from .table_limits import MOST_ROWS
-from .telling import Refused
+from .telling import Refused, counted
+from .waiting import Waiting
 
 
 def dry_run(given: argparse.Namespace) -> None:
     """Prints the kind of each column, and writes nothing."""
-    # a file that is loaded as it is needs none of what an import by columns does
-    from . import importing_columns
-    importing_columns.dry_run(given)
+    with tempfile.TemporaryDirectory() as folder:
+        Table(given.csv, given, pathlib.Path(folder)).report()
 
 
 def import_file(given: argparse.Namespace, out: str, is_folder: bool) -> None:
@@ -36,30 +40,31 @@ def import_file(given: argparse.Namespace, out: str, is_folder: bool) -> None:
     command.program()
     is_folder = is_folder or os.path.isdir(path)
     with placing.new_folder(path) as room, inputs.open_input(given.csv) as file:
-        straight = import_straight(given, file, room, name, is_folder)
-        if straight:
-            put_straight(straight, room, name, path, is_folder)
-            return
-        from .importing_columns import import_columns
-        table, told = import_columns(given, file, room, name, path, is_folder)
+        table = Table(given.csv, given, room, file, is_folder)
+        if len(table.coded.parts) == 1 and not is_folder:
+            with Waiting().shown("the table is written"):
+                table.write(0, name, room / "table.bw")
+            done = put_one(room / "table.bw", table.columns, room, name, path)
+        else:
+            done = put_many(load_shards(table, room, name), table.columns, room, name, path)
     # last, since its reader may stop early, as head does
     table.report()
-    print(told)
+    print(done)
 
 
-def put_straight(found: Imported, room: pathlib.Path, name: str, path: str,
-                 is_folder: bool) -> None:
-    """Moves what was loaded as it is to its place, and prints what an import reports."""
-    record = found.records[0]
-    if len(found.records) == 1 and not is_folder:
-        alone = TableFile("", 0, record.size, record.changed, record.inode,
-                          record.sha256, record.header)
-        told = put_one(room / "made" / record.file, found.columns, room, name, path, alone)
-    else:
-        told = put_many(found.records, found.columns, room, name, path)
-    for line in found.report():
-        print(line)
-    print(told)
+def load_shards(table: Table, room: pathlib.Path, name: str) -> list[TableFile]:
+    """Writes the shards of a table into the folder `made`, several side by side. Returns their
+    records in the order of rows."""
+    (room / "made").mkdir()
+    shards = len(table.coded.parts)
+    count = processes_for(shards, table.source.text.marks().size)
+
+    def load_some(process: int) -> list[TableFile]:
+        return [table.record(place, name, shard_file(room / "made", place))
+                for place in range(process, shards, count)]
+
+    found = processes.do_parts(count, load_some)
+    return [found[place % count][place // count] for place in range(shards)]
 
 
 def verify(path: str) -> None:
@@ -101,3 +106,38 @@ def refuse_rows(rows: int | None) -> None:
     """Rejects a number of rows that a shard can't have."""
     if rows is not None and not 1 <= rows <= MOST_ROWS:
         raise Refused(f"--rows: a shard has from 1 to {MOST_ROWS:,} rows")
+
+
+def refuse_out(path: str) -> None:
+    """Rejects a target that is neither a file nor a folder of shards, or whose columns file is no
+    file."""
+    if os.path.isdir(path) and not os.path.islink(path):
+        refuse_folder(path)
+        return
+    placing.refuse_target(path, [])
+    placing.refuse_target(f"{path}.columns", [])
+
+
+def put_one(made: pathlib.Path, columns: Sequence[Column], room: pathlib.Path, name: str,
+            path: str, record: TableFile | None = None) -> str:
+    """Moves a table file, of which there may be a record, and its columns file to their places.
+    Returns what was done."""
+    record = record or pairs.record_of(made)
+    store.write(room / "columns", columns, name, [record])
+    pairs.put_pair(room, made, room / "columns", record.sha256, path)
+    return f"{path} is written, as table {name}, and {path}.columns"
+
+
+def put_many(records: Sequence[TableFile], columns: Sequence[Column], room: pathlib.Path, name: str,
+             path: str) -> str:
+    """Moves a folder of shards to its place. Returns what was done."""
+    store.write(room / "made" / FILE, columns, name, records)
+    placing.put_folder(room / "made", path, refuse_out)
+    return told(path, name, records)
+
+
+def told(path: str, name: str, records: Sequence[TableFile]) -> str:
+    """Returns what is said of a folder of shards that was written."""
+    most = max(record.rows for record in records)
+    return (f"{path} is written, as table {name}: {counted(len(records), 'shard')} of up to "
+            f"{counted(most, 'row')}")

@@ -32,7 +32,7 @@ class Positioned(io.RawIOBase):
     """An open file with a position of its own, so that several processes can read it side by
     side."""
 
-    def __init__(self, file: IO[bytes]) -> None:
+    def __init__(self, file: Any) -> None:
         self.file, self.position = file, 0
 
     def close(self) -> None:
@@ -46,7 +46,8 @@ class Positioned(io.RawIOBase):
         return True
 
     def fileno(self) -> int:
-        return self.file.fileno()
+        number: int = self.file.fileno()
+        return number
 
     def seek(self, offset: int, whence: int = os.SEEK_SET) -> int:
         bases = {os.SEEK_SET: 0, os.SEEK_CUR: self.position}

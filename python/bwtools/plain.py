@@ -7,38 +7,52 @@ import functools
 import itertools
 import operator
 import re
-from collections import Counter
 from dataclasses import dataclass, field
-from typing import Any, Iterable, Sequence
+from typing import Any, Iterable, NamedTuple, Sequence
 
-from .keeping import Numbered, packed, split_nulls, values_of
 from .numerals import is_grouped
-from .plain_times import plain_times, times_of
+from .plain_times import plain_times
 from .spans import LONGEST, MOST_DIGITS, Spans
 
 FLOATS = re.compile(r"(?:-?(?:[0-9]+(?:\.[0-9]+)?)(?:e[+-][0-9]+)?\n)*")
 FIRST = re.compile("-?[0-9]|[ \t]")
+# the types of arrays of numbers, each with the bits of its magnitudes
+TYPES = (("b", 7), ("h", 15), ("i", 31), ("q", 63))
+
+
+class Numbered(NamedTuple):
+    """The numbers of fields that are spelled as numbers are printed: the type of the array and its
+    bytes. `nulls` has a byte for each field: 0, or 1 more than the place of its word for null; it
+    is empty if no field is null. Whole numbers, decimals and times are multiplied by ten to
+    `digits`. If decimals have different numbers of digits, `lengths` has that of each; of doubles
+    it has 1 for those that are spelled without their `.0`. `shape` is the decimal sign, or the
+    shape of times."""
+    form: str
+    type: str
+    data: bytes
+    nulls: bytes
+    digits: int
+    lengths: bytes
+    shape: Any
 
 
 @dataclass
 class Plain:
-    """What is known of the fields of a column that are stored as numbers: the numbers, one with a
-    decimal sign and one in all, the shapes of times, how many nulls there are of each word, how
-    many fields had blanks around them, and how often other fields came. `words` has what stands for
-    each word for null; `signs` are the decimal signs that are read, none if no fields may be stored
-    so."""
+    """What is known of the fields of a column that are kept as numbers: the numbers, one with a
+    decimal sign and one in all, the shapes of times, how many of them have blanks around them, and
+    how often other fields came. `words` has what stands for each word for null; `signs` are the
+    decimal signs that are read, none if no fields may be kept so."""
     words: dict[str, int]
     signs: str = ".,"
     spans: Spans = field(default_factory=Spans)
     samples: dict[str, str] = field(default_factory=dict)
     shapes: dict[Any, tuple[int, int]] = field(default_factory=dict)
-    nulls: Counter[str] = field(default_factory=Counter)
     padded: int = 0
     failed: int = 0
 
     @property
     def forms(self) -> set[str]:
-        """The forms of the stored fields: number, float and time."""
+        """The forms of the kept fields: number, float and time."""
         found = {"number": bool(self.spans.ends), "float": self.spans.is_float,
                  "time": bool(self.shapes)}
         return {form for form, is_there in found.items() if is_there}
@@ -48,13 +62,15 @@ class Plain:
         """The decimal sign, or nothing if none has occurred."""
         return "," if "," in self.samples.get("mark", "") else self.samples.get("mark", "") and "."
 
-    def add(self, fields: Sequence[str]) -> Numbered | None:
-        """Adds fields, and returns them as stored, if all but the nulls are numbers or times in
-        such a spelling."""
-        first = fields[0]
-        if not self.signs or self.failed > 2 or not FIRST.match(first) and first not in self.words:
-            return None
-        bare, padded = without_blanks(fields)
+    def may_have(self, first: str) -> bool:
+        """Returns whether fields, of which one is the first, may be kept as numbers."""
+        return bool(self.signs) and self.failed <= 2 and \
+            (FIRST.match(first) is not None or first in self.words)
+
+    def add(self, fields: Sequence[str], is_padded: bool = True) -> Numbered | None:
+        """Adds fields, and returns them as they are kept, if all but the nulls are numbers or times
+        in such a spelling."""
+        bare, padded = without_blanks(fields) if is_padded else (fields, 0)
         present, nulls = split_nulls(bare, self.words)
         kept = self.examined(present, nulls) if present else None
         if kept is None:
@@ -62,8 +78,6 @@ class Plain:
             return None
         self.padded += padded
         self.samples.setdefault("any", present[0])
-        if nulls:
-            self.nulls.update(itertools.compress(bare, nulls))
         return kept
 
     def examined(self, fields: Sequence[str], nulls: bytes) -> Numbered | None:
@@ -74,7 +88,10 @@ class Plain:
             return None
         if fields[0][4:5] == "-":
             return self.times(fields, nulls)
-        return self.numbers(fields, joined, nulls) or self.floats(fields, joined, nulls)
+        # decimals that fit no scale become floats
+        is_float = self.spans.is_float or self.spans.digits > 0 and not self.spans.fits()
+        ways = (self.floats, self.numbers) if is_float else (self.numbers, self.floats)
+        return ways[0](fields, joined, nulls) or ways[1](fields, joined, nulls)
 
     def numbers(self, fields: Sequence[str], joined: str, nulls: bytes) -> Numbered | None:
         """Adds fields without line feeds, which are also given joined, if they are whole numbers or
@@ -129,16 +146,21 @@ class Plain:
         """Adds fields that are doubles in Python's spelling, also without its `.0`."""
         # other decimals with a negative zero may still fit a scale
         is_float = self.spans.is_float or "e" in joined or max(map(len, fields)) > MOST_DIGITS
-        if not is_float or not FLOATS.fullmatch(joined):
+        is_float = is_float or self.spans.digits > 0 and not self.spans.fits()
+        if not is_float:
             return None
-        numbers = list(map(float, fields))
-        spelled = list(map(repr, numbers))
+        try:
+            numbers = list(map(float, fields))
+        except ValueError:
+            return None
         lengths = b""
-        if spelled != fields:
+        # as a list they are spelled fastest; inf and nan are none
+        if "n" in joined or str(numbers)[1:-1].replace(", ", "\n") + "\n" != joined:
+            spelled = list(map(repr, numbers))
             lengths = bytes(map(operator.ne, spelled, fields))
             bare = itertools.compress(fields, lengths)
-            if any(text + ".0" != other for text, other in
-                   zip(bare, itertools.compress(spelled, lengths))):
+            if not FLOATS.fullmatch(joined) or any(text + ".0" != other for text, other in zip(
+                    bare, itertools.compress(spelled, lengths))):
                 return None
         self.spans.add_doubles(numbers)
         return Numbered("float", "d", array.array("d", numbers).tobytes(), nulls, 0, lengths, ".")
@@ -170,31 +192,6 @@ def without_blanks(fields: Sequence[str]) -> tuple[Sequence[str], int]:
     return bare, sum(map(operator.ne, bare, fields))
 
 
-def texts_of(kept: Numbered) -> Sequence[str]:
-    """Returns the texts of stored numbers as they were, without blanks around them and without the
-    nulls."""
-    numbers = values_of(kept)
-    if kept.form == "time":
-        return times_of(numbers, kept.shape)
-    if kept.form == "float":
-        texts = list(map(repr, numbers))
-        return [text[:-2] if bare else text for text,
-                bare in zip(texts, kept.lengths)] if kept.lengths else texts
-    if not kept.digits:
-        return list(map(str, numbers))
-    lengths = kept.lengths or bytes([kept.digits]) * len(numbers)
-    return [decimal_text(number, kept.digits, length, kept.shape) for number,
-            length in zip(numbers, lengths)]
-
-
-def decimal_text(number: int, digits: int, length: int, mark: str) -> str:
-    """Returns a decimal, multiplied by ten to `digits`, with a number of digits after its decimal
-    sign."""
-    text = str(abs(number)).rjust(digits + 1, "0")
-    whole, part = text[:-digits], text[-digits:][:length]
-    return f"{'-' if number < 0 else ''}{whole}{mark if length else ''}{part}"
-
-
 def are_whole(fields: Sequence[str], joined: str) -> bool:
     """Returns whether fields without line feeds, which are joined with one after each, are all
     whole numbers as they are restored."""
@@ -214,3 +211,28 @@ def plain_of(mark: str) -> re.Pattern[str]:
     """Returns the pattern of lines of whole numbers and decimals with a decimal sign, without
     negative zeros."""
     return re.compile(rf"(?:(?!-0(?:[{mark}]0+)?\n)-?(?:0|[1-9][0-9]*)(?:[{mark}][0-9]+)?\n)*")
+
+
+def packed(numbers: Sequence[int]) -> tuple[str, bytes] | None:
+    """Returns the type of an array and its bytes, or None if a number doesn't fit 64 bits."""
+    least, greatest = min(numbers), max(numbers)
+    for kind, bits in TYPES:
+        if -1 << bits <= least and greatest < 1 << bits:
+            return kind, array.array(kind, numbers).tobytes()
+    return None
+
+
+def values_of(kept: Numbered) -> array.array[Any]:
+    """Returns the numbers."""
+    found = array.array(kept.type)
+    found.frombytes(kept.data)
+    return found
+
+
+def split_nulls(fields: Sequence[str], places: dict[str, int]) -> tuple[Sequence[str], bytes]:
+    """Returns the fields that aren't a word for null, and a byte for each field as Numbered has it,
+    or nothing if none is such a word. `places` has what stands for each word."""
+    if places.keys().isdisjoint(fields):
+        return fields, b""
+    nulls = bytes([places.get(field, 0) for field in fields])
+    return list(itertools.compress(fields, map(operator.not_, nulls))), nulls

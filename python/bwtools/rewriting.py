@@ -12,13 +12,12 @@ from dataclasses import dataclass, replace
 from typing import BinaryIO, Callable, Iterable, Iterator, Optional
 
 from . import ragged
-from .chunk import BREAK
 from .ragged import Record
 from .signs import Signs
 from .telling import Refused, shown
 from .wishes import BLANKS
 
-RUN = re.compile("[ \t]+")
+RUN, BREAK = re.compile("[ \t]+"), re.compile("\r\n|\r|\n")
 
 
 @dataclass(frozen=True)
@@ -70,7 +69,8 @@ def rewritten(records: Callable[[], Iterator[Record]], skipped: int, changes: Ch
     first lines, which are skipped, are empty there."""
     with tempfile.TemporaryFile() as made:
         out = io.TextIOWrapper(made, encoding="utf-8", newline="")
-        writer = csv.writer(out, lineterminator="\n")
+        # both ends of lines are quoted only if both are in this one
+        writer = csv.writer(out, lineterminator="\r\n")
         line = 1
         while line <= skipped:
             line += out.write("\n")

@@ -41,7 +41,7 @@ class Spans:
     def add_doubles(self, doubles: Sequence[float]) -> None:
         self.is_float = True
         least, low, high = self.reach
-        least = min(least, min((abs(each) for each in doubles if each), default=math.inf))
+        least = min(least, min(map(float.__abs__, filter(None, doubles)), default=math.inf))
         self.reach = least, min(low, min(doubles)), max(high, max(doubles))
 
     def copy(self) -> Spans:

@@ -355,10 +355,12 @@ def write_list(database: sqlite3.Connection, place: int, listed: Iterable[Any], 
     """Writes the values of a list, and returns how many there are. Raises Refused if they don't
     ascend."""
     count, last = 0, list[Any]()
-    for block in blocks_of(listed):
+    # texts that are read as bytes are written as these
+    encoded = getattr(listed, "encoded", None)
+    for block in blocks_of(encoded() if encoded else listed):
         if not count:
-            database.execute(LISTED.format(place, TYPES[type(block[0])]))
-        if not are_ascending(last + block):
+            database.execute(LISTED.format(place, TYPES[float if type(block[0]) is float else str]))
+        if not are_ascending([*last, *block]):
             raise Refused(f"the values of column {place + 1} don't ascend")
         data = packed(block)
         database.execute(f"INSERT INTO values_{place} VALUES (?, ?, ?)",

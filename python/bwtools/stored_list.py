@@ -13,7 +13,7 @@ from .listed import Place
 from .telling import Refused, shown
 
 # a block has so many values, or fewer long ones: it ends with the one that makes it so long
-VALUES_A_BLOCK, CHARACTERS_A_BLOCK = 64, 1 << 14
+VALUES_A_BLOCK, LENGTH_A_BLOCK = 1 << 9, 1 << 17
 # values of one statement of SQLite, at most the variables of a statement of any, and so many are
 # all read once half of them were
 AT_ONCE, MOST_KEPT = 400, 1 << 20
@@ -25,22 +25,23 @@ def blocks_of(values: Iterable[Any]) -> Iterator[list[Any]]:
     """Yields the values of a list in blocks."""
     rest = iter(values)
     while block := list(itertools.islice(rest, VALUES_A_BLOCK)):
-        if type(block[0]) is not str or sum(map(len, block)) <= CHARACTERS_A_BLOCK:
+        if type(block[0]) is float or sum(map(len, block)) <= LENGTH_A_BLOCK:
             yield block
             continue
-        part, size = list[Any](), 0
-        for value in block:
-            part.append(value)
-            size += len(value)
-            if size > CHARACTERS_A_BLOCK:
-                yield part
-                part, size = [], 0
-        if part:
-            yield part
+        # few questions need it
+        import bisect
+        ends, first = list(itertools.accumulate(map(len, block))), 0
+        while first < len(block):
+            begun = ends[first] - len(block[first])
+            end = bisect.bisect_right(ends, begun + LENGTH_A_BLOCK) + 1
+            yield block[first:end]
+            first = end
 
 
 def packed(block: Sequence[Any]) -> bytes:
-    """Returns the bytes of a block of texts, or of doubles."""
+    """Returns the bytes of a block of texts, which may be in UTF-8, or of doubles."""
+    if type(block[0]) is bytes:
+        return BETWEEN.join(block)
     if type(block[0]) is str:
         return BETWEEN.join(map(str.encode, block))
     # few columns are of ranked doubles

@@ -19,6 +19,7 @@ from .records import Records
 from .regular import Marks
 from .rewriting import Changes, changes_of, rewritten, without_runs
 from .signs import NUL, Signs
+from .table_limits import MOST_CHARACTERS
 from .telling import Refused
 
 MARKS = ((b"\xef\xbb\xbf", "utf-8-sig"), (b"\xff\xfe", "utf-16"), (b"\xfe\xff", "utf-16"))
@@ -27,7 +28,7 @@ BYTES_AT_ONCE = 1 << 18
 SAMPLE, LONGEST = 1 << 16, 1 << 20
 SAID = re.compile('"?sep=(.)"?[\r\n]*', re.IGNORECASE)
 
-csv.field_size_limit(1 << 30)
+csv.field_size_limit(MOST_CHARACTERS)
 # newer Pythons reject numbers of many digits, unless the limit is set
 getattr(sys, "set_int_max_str_digits", int)(0)
 
@@ -161,6 +162,11 @@ class Text:
 
     def refuse_unreadable(self, error: quoting.Unreadable) -> NoReturn:
         """Rejects the file for a record that isn't CSV."""
+        if "field limit" in str(error):
+            raise Refused(f"{self.path}: line {error.line}, or one after it, has a field of more "
+                          f"than {MOST_CHARACTERS:,} characters, or one in quotes that doesn't "
+                          "end: use --quote none if fields have no quotation marks around them") \
+                from None
         try:
             use = quoting.advice(self.records_by, self.signs, error)
         except UnicodeError:
@@ -182,8 +188,9 @@ class Text:
             with contextlib.suppress(ValueError):
                 text.detach()
 
-    def refuse_nul(self, text: str, line: int) -> None:
-        """Rejects a text with a NUL, unless the encoding was given."""
+    def refuse_nul(self, record: list[str], line: int) -> None:
+        """Rejects a record with a NUL, unless the encoding was given."""
+        text = "".join(record)
         if NUL in text and not self.may_have_nul:
             line += text.count("\n", 0, text.index(NUL))
             raise Refused(f"{self.path}: line {line} has a NUL, so it isn't text: if it is, name "

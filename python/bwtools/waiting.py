@@ -1,5 +1,5 @@
-"""Shows on standard error what a question waits for: only at a terminal, and once it has taken a
-second."""
+"""Shows on standard error what a question or an import waits for: only at a terminal, and once it
+has taken a second."""
 from __future__ import annotations
 
 import contextlib
@@ -10,6 +10,10 @@ from typing import TYPE_CHECKING, Iterator
 
 if TYPE_CHECKING:
     import threading
+
+
+# after how many seconds the line is shown, and how often it is updated
+FIRST, EVERY = 1.0, 0.2
 
 
 class Waiting:
@@ -52,17 +56,21 @@ class Waiting:
 
     def update(self, ended: threading.Event) -> None:
         """Updates the line until the end."""
-        from .progress import EVERY, FIRST, Progress
         if ended.wait(FIRST):
             return
         with contextlib.suppress(OSError, ValueError):
             while True:
-                Progress.write(self.line())
+                self.write(self.line())
                 if ended.wait(EVERY):
                     break
-            Progress.write("")
+            self.write("")
 
     def line(self) -> str:
         if self.rows:
             return f"{self.what} {self.rows:,} rows"
         return f"{self.what}, {time.monotonic() - self.begun:.0f} s"
+
+    @staticmethod
+    def write(text: str) -> None:
+        sys.stderr.write(f"\r{text}\x1b[K")
+        sys.stderr.flush()

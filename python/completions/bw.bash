@@ -10,13 +10,13 @@ _bw() {
     COMPREPLY=()
     case $command:$before in
         load:--layout|encode:--layout) words='planes slices' ;;
-        encode:--separator|encode:--quote|encode:--escape|encode:--comment) return ;;
+        encode:--separator|encode:--quote|encode:--escape|encode:--comment|encode:--columns|encode:--rows) return ;;
         infer:--table) return ;;
         query:--program|session:--program) ;;
         :*) words='infer load encode recode query session direct dump info plan certify check --explain --help --version' ;;
         infer:*) words='--table --explain --help' ;;
         load:*) words='--layout --explain --help' ;;
-        encode:*) words='--separator --quote --escape --comment --lenient --layout --explain --help' ;;
+        encode:*) words='--separator --quote --escape --comment --lenient --fill --columns --rows --layout --explain --help' ;;
         query:*) words='--program --stats --explain --help' ;;
         session:*) words='--program --stats --explain --help' ;;
         *) words='--explain --help' ;;

@@ -7,7 +7,7 @@ import tempfile
 import unittest
 from unittest import mock
 
-from bwtools import pairs, placing, putting, store
+from bwtools import importing, pairs, placing, store
 from bwtools.column import Column
 from bwtools.shards import FILE, Folder, shard_file
 
@@ -32,7 +32,7 @@ class Folders(unittest.TestCase):
                 path.write_text(content)
                 records.append(pairs.record_of(path, path.name, 1))
             store.write(made / FILE, [Column("a", "a", texts(content))], "t", records)
-            placing.put_folder(made, str(self.path), putting.refuse_out)
+            placing.put_folder(made, str(self.path), importing.refuse_out)
 
     def found(self):
         """Returns the contents of the shards, and the text of their columns file."""

@@ -4,25 +4,51 @@ import csv
 import gzip
 import io
 import lzma
+import pathlib
 import random
 import unittest
 
-from bwtools import source
+from bwtools import fields
+from bwtools.loader.dictionary import texts_of
+from bwtools.loader.encode import Coder
+from bwtools.source import Source
 from bwtools.telling import Refused
 
-from tests.support import source_of
+from tests.support import bw, in_file, options, source_of
 
 
 def columns_of(data, *words):
+    """Returns the fields of a file as they are read here, once bw has read the same."""
+    columns = [list(column) for column in zip(*source_of(data, *words).rows())]
+
+    def compare(path):
+        found = Source(path, options(*words))
+        for marked in (set(), set(range(len(found.headings)))):
+            coder = Coder(found, options(*words), pathlib.Path(path).parent, False, marked)
+            self.assertEqual(coded_columns(coder.code()) if columns else [], columns)
+
+    self = unittest.TestCase()
+    in_file(data, compare)
+    return columns
+
+
+def coded_columns(coded):
+    """Returns the fields that the tables and the dictionaries of a file spell."""
     columns = []
-    for chunk in source_of(data, *words).chunks():
-        columns = [[*first, *then] for first, then in zip(columns or [[] for _ in chunk.columns],
-                                                          chunk.columns)]
+    for part in coded.parts:
+        rows = [line.split(",") for line in bw("dump", part.coded.path).out.splitlines()[1:]]
+        for place, column in enumerate(zip(*rows)):
+            listed = part.dictionaries[place] and [
+                text for block in part.dictionaries[place].blocks()
+                for text in texts_of(block.fields)]
+            columns += [[]] if place == len(columns) else []
+            columns[place] += ["" if code == "NULL" else listed[int(code)] if listed else code
+                               for code in column]
     return columns
 
 
 def parts(text, width, separator=",", quote='"'):
-    return source.columns_of(text.split(quote), separator, width)
+    return fields.columns_of(text.split(quote), separator, width)
 
 
 class Columns(unittest.TestCase):
@@ -67,7 +93,7 @@ class Files(unittest.TestCase):
     def test_heading_and_rows(self):
         found = source_of(b"a;b,c;d\n1;2;3\n")
         self.assertEqual((found.separator, found.headings), (";", ["a", "b,c", "d"]))
-        self.assertEqual([chunk.columns for chunk in found.chunks()], [[["1"], ["2"], ["3"]]])
+        self.assertEqual(list(found.rows()), [["1", "2", "3"]])
 
     def test_no_heading(self):
         found = source_of(b"1,2\n3,4\n", "--no-heading")
@@ -76,8 +102,7 @@ class Files(unittest.TestCase):
 
     def test_empty_lines_are_counted(self):
         found = source_of(b"\n\na,b\n\n1,2\n\n\n3,4\n")
-        self.assertEqual([list(map(list, chunk.columns)) for chunk in found.chunks()],
-                         [[["1", "3"], ["2", "4"]]])
+        self.assertEqual(list(found.rows()), [["1", "2"], ["3", "4"]])
         self.assertEqual((found.counts.rows, found.counts.empty), (2, 5))
 
     def test_excel_says_its_separator(self):
@@ -87,26 +112,22 @@ class Files(unittest.TestCase):
         self.assertEqual(source_of(b"\xef\xbb\xbfa\n1\n").headings, ["a"])
         self.assertEqual(source_of("a,b\n".encode("utf-16")).headings, ["a", "b"])
 
-    def test_fields_that_go_over_blocks(self):
-        was, source.CHARACTERS_AT_ONCE = source.CHARACTERS_AT_ONCE, 8
-        try:
-            draw = random.Random(9)
-            for _ in range(200):
-                rows = [["".join(draw.choices(['"', ",", "\n", "ab", "\r\n", "1"],
-                                              k=draw.randrange(6))) for _ in range(3)]
-                        for _ in range(draw.randrange(1, 9))]
-                out = io.StringIO(newline="")
-                csv.writer(out, lineterminator=draw.choice(["\n", "\r\n"]),
-                           quoting=draw.choice([csv.QUOTE_ALL, csv.QUOTE_MINIMAL])
-                           ).writerows([["a", "b", "c"], *rows])
-                self.assertEqual(columns_of(out.getvalue().encode()),
-                                 [list(each) for each in zip(*rows)], out.getvalue())
-        finally:
-            source.CHARACTERS_AT_ONCE = was
+    def test_fields_of_more_lines(self):
+        draw = random.Random(9)
+        for _ in range(60):
+            rows = [["".join(draw.choices(['"', ",", "\n", "ab", "\r\n", "1"],
+                                          k=draw.randrange(6))) for _ in range(3)]
+                    for _ in range(draw.randrange(1, 9))]
+            out = io.StringIO(newline="")
+            csv.writer(out, lineterminator=draw.choice(["\n", "\r\n"]),
+                       quoting=draw.choice([csv.QUOTE_ALL, csv.QUOTE_MINIMAL])
+                       ).writerows([["a", "b", "c"], *rows])
+            self.assertEqual(columns_of(out.getvalue().encode()),
+                             [list(each) for each in zip(*rows)], out.getvalue())
 
     def test_lines_of_rows(self):
-        chunk, = source_of(b'\na,b\n1,"x\ny"\n\n2,3\n4,5\n').chunks()
-        self.assertEqual([chunk.line_of(place) for place in range(3)], [3, 6, 7])
+        found = source_of(b'\na,b\n1,"x\ny"\n\n2,3\n4,5\n').numbered_rows()
+        self.assertEqual([line for line, _ in found], [3, 6, 7])
 
     def test_refused(self):
         for data, wanted in [(b"", "there is no heading"),
@@ -173,14 +194,15 @@ class Forms(unittest.TestCase):
         self.assertEqual(columns_of(b"a,b\n1,#x\n2,y\n", "--comment", "#"),
                          [["1", "2"], ["#x", "y"]])
 
-    def test_comments_over_blocks(self):
-        was, source.CHARACTERS_AT_ONCE = source.CHARACTERS_AT_ONCE, 16
-        try:
-            data = (b"# \" one\n" + b'a,b\n1,"x\n#\n"\n# it\"s\n' + b"# x\n" * 9 + b'2,y\n' +
-                    b"#\n" * 9)
-            self.assertEqual(columns_of(data, "--comment", "#"), [["1", "2"], ["x\n#\n", "y"]])
-        finally:
-            source.CHARACTERS_AT_ONCE = was
+    def test_comments_beside_quotes(self):
+        data = (b"# \" one\n" + b'a,b\n1,"x\n#\n"\n# it\"s\n' + b"# x\n" * 9 + b'2,y\n' +
+                b"#\n" * 9)
+        self.assertEqual(columns_of(data, "--comment", "#"), [["1", "2"], ["x\n#\n", "y"]])
+
+    def test_ends_of_lines_in_records_that_are_picked(self):
+        for end in ("\n", "\r", "\r\n"):
+            self.assertEqual(columns_of(f'a,b,c\n1,"x{end}y",3\n2,z,4\n'.encode(), "--columns",
+                                        "a,b"), [["1", "2"], [f"x{end}y", "z"]])
 
     def test_ragged_rows(self):
         self.assertEqual(self.refused(b"a,b,c\n1,2\n1,2,3\n1\n2,3\n4\n"),
@@ -197,8 +219,7 @@ class Forms(unittest.TestCase):
 
     def test_short_rows_are_filled(self):
         found = source_of(b"a,b,c\n1,2\n1,2,3\n\n1\n", "--fill")
-        self.assertEqual([list(map(list, chunk.columns)) for chunk in found.chunks()],
-                         [[["1", "1", "1"], ["2", "2", ""], ["", "3", ""]]])
+        self.assertEqual(list(found.rows()), [["1", "2", ""], ["1", "2", "3"], ["1", "", ""]])
         self.assertEqual((found.counts.filled, found.counts.empty), (2, 1))
 
     def test_a_title_or_a_comment_is_recognised(self):

@@ -77,7 +77,7 @@ class Whole(Files):
                              (list(values), (3, False), (4, True)))
 
     def test_long_texts_are_in_blocks_of_their_own(self):
-        long = [letter * 20_000 for letter in "abcdefgh"]
+        long = [letter * 200_000 for letter in "abcdefgh"]
         values = sorted([*long, *(f"{letter}{number}" for letter in "abc" for number in range(99))])
         self.assertGreater(len(list(stored_list.blocks_of(long))), 7)
         self.write([Column("a", "a", texts(*values))])

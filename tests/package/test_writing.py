@@ -8,10 +8,12 @@ import tempfile
 import unittest
 from unittest import mock
 
-from bwtools import placing, progress, writing
+from bwtools import placing
+from bwtools.loader import encode
+from bwtools.loader.table import Table
 from bwtools.telling import Refused
 
-from tests.support import numbers_of, options, table_of
+from tests.support import Import, numbers_of, options, table_of
 
 
 class Tables(unittest.TestCase):
@@ -22,32 +24,22 @@ class Tables(unittest.TestCase):
     def test_nulls_of_one_column(self):
         self.assertEqual(numbers_of(b'a\n5\n""\n'), [["5", "NULL"]])
 
-    def test_a_column_that_becomes_texts_late(self):
-        data = "a,b\n" + "".join(f"{number},{number % 7}\n"
-                                 for number in range(9000)) + "x,1\ny,1\nz,1\n12a,3\n"
-        texts = sorted([*map(str, range(9000)), "x", "y", "z", "12a"])
-        with mock.patch("bwtools.source.CHARACTERS_AT_ONCE",
-                        1 << 12), mock.patch("bwtools.gathering.MANY", 100):
-            table = table_of(data.encode())
-            found = [number for chunk in table.chunks() for number in chunk[0]]
-        self.assertEqual(list(table.columns[0].kind.listed), texts)
-        self.assertEqual([texts[int(number)] for number in found],
-                         [*map(str, range(9000)), "x", "y", "z", "12a"])
-        self.assertEqual((table.columns[0].why, table.columns[0].looks_like),
+    def test_many_texts_that_look_like_numbers(self):
+        fields = [*map(str, range(9000)), "x", "y", "z", "12a"]
+        found = Import("a,b\n" + "".join(f"{field},1\n" for field in fields))
+        column = found.columns[0]
+        self.assertEqual(list(column.kind.listed), sorted(fields))
+        self.assertEqual([row.split(",")[0] for row in found.rows], fields)
+        self.assertEqual((column.why, column.looks_like),
                          ("9,000 of 9,004 fields look like numbers", "numbers"))
 
     def test_a_column_of_many_odd_spellings(self):
-        data = "a\n" + "".join(f"+{number}\n" for number in range(5000))
-        with mock.patch("bwtools.source.CHARACTERS_AT_ONCE",
-                        1 << 12), mock.patch("bwtools.runs.MOST_TEXTS", 500):
-            table = table_of(data.encode())
-            table.write(os.devnull)
-        self.assertEqual((table.columns[0].ends, table.tallies[0].counts.changed),
+        table = table_of(("a\n" + "".join(f"+{number}\n" for number in range(5000))).encode())
+        self.assertEqual((table.columns[0].ends, table.numbers[0].counts.changed),
                          (["0", "4999"], 5000))
 
     def test_report(self):
         table = table_of(b"a,b\n1.5,x\n2.25,NA\n3.0,\n")
-        table.write(os.devnull)
         with contextlib.redirect_stdout(io.StringIO()) as out:
             table.report()
         lines = ["COLUMN  HEADING  WHAT IT IS               FROM  TO    NULLS              NOTES",
@@ -60,34 +52,40 @@ class Tables(unittest.TestCase):
 
     def test_schema(self):
         table = table_of(b"a,b,c\n1,x,\n,y,\n-5,z,\n")
-        table.write(os.devnull)
         self.assertEqual(table.schema("t"),
                          "TABLE t\nCOLUMN a -5 1\nCOLUMN b 0 2 NOT NULL\nCOLUMN c 0 0\n")
 
     def test_changed_spelling_is_counted_alike(self):
         fields = ["1.5", "2.25", "3", "4.10", "+5.00"]
         for many in (0, 1 << 11):
-            with mock.patch("bwtools.gathering.MANY",
-                            many), mock.patch("bwtools.gathering.FIRST", many), \
-                    mock.patch("bwtools.source.CHARACTERS_AT_ONCE", 16):
+            with mock.patch("bwtools.judges.fields.MANY", many):
                 table = table_of(("a\n" + "\n".join(fields * 20) + "\n").encode())
-                table.write(os.devnull)
                 # all but 2.25 and 4.10
-                self.assertEqual(table.tallies[0].counts.changed, 60)
+                self.assertEqual(table.numbers[0].counts.changed, 60)
 
     def test_a_file_that_changes_is_refused(self):
+        def change(*given, real=encode.encode):
+            pathlib.Path(path).write_bytes(b"a\n1\n2\n")
+            return real(*given)
+
         with tempfile.TemporaryDirectory() as name:
             path = pathlib.Path(name) / "in.csv"
             path.write_bytes(b"a\n1\n")
-            table = writing.NumberTable(str(path), options())
-            path.write_bytes(b"a\n1\n2\n")
-            with self.assertRaisesRegex(Refused, "the file changed while it was read"):
-                table.write(os.devnull)
+            with mock.patch.object(encode, "encode", change), \
+                    self.assertRaisesRegex(Refused, "the file changed while it was read"):
+                Table(str(path), options(), pathlib.Path(name))
+
+    def test_what_is_waited_for(self):
+        with mock.patch("bwtools.waiting.Waiting.begin") as begun:
+            table_of(b"a\n1\n2\n")
+        self.assertEqual([call.args[0] for call in begun.call_args_list],
+                         ["bw codes the rows", "its distinct fields are examined"])
 
     def test_too_much_is_refused(self):
-        with mock.patch("bwtools.writing.MOST_BYTES",
-                        3), self.assertRaisesRegex(Refused, "more than 1 GiB"):
-            table_of(b"a\n1\n2\n").write(os.devnull)
+        for data, most in ((b"a\n1\n2\n", 5), (b"a\nx\n2\n", 3)):
+            with mock.patch("bwtools.loader.table.MOST_BYTES",
+                            most), self.assertRaisesRegex(Refused, "more than 1 GiB"):
+                numbers_of(data)
 
 
 class Files(unittest.TestCase):
@@ -132,34 +130,3 @@ class Files(unittest.TestCase):
                                     "isn't a folder"), \
                 placing.new_folder(self.folder / "no" / "out"):
             pass
-
-
-class Progress(unittest.TestCase):
-    def test_says_nothing_off_a_terminal(self):
-        with contextlib.redirect_stderr(io.StringIO()) as err, \
-                mock.patch("bwtools.progress.FIRST", 0.0), \
-                progress.Progress("read") as shown:
-            shown.add(5, 7)
-        self.assertEqual(err.getvalue(), "")
-
-    def test_is_wanted_at_a_terminal(self):
-        ours, theirs = os.openpty()
-        self.addCleanup(os.close, ours)
-        with open(theirs, "w",
-                  encoding="utf-8") as terminal, contextlib.redirect_stderr(terminal), \
-                mock.patch("bwtools.progress.FIRST", 0.0), \
-                progress.Progress("read") as shown, progress.Progress("read", False) as other:
-            self.assertTrue(shown.is_wanted and not other.is_wanted)
-            shown.add(1500)
-            self.assertEqual(os.read(ours, 100), b"\rread 1,500 rows\x1b[K")
-
-    def test_line_is_written_over_and_taken_away(self):
-        with contextlib.redirect_stderr(io.StringIO()) as err, progress.Progress("read") as shown:
-            shown.is_wanted, shown.begun = True, shown.begun - 2
-            shown.add(1000, 10 ** 6)
-            self.assertEqual(err.getvalue(), "")
-            shown.next = 0.0
-            shown.add(234, 10 ** 6)
-            self.assertRegex(err.getvalue(), "^\rread 1,234 rows, 0\\.5 MB/s\x1b\\[K$")
-            shown.add(1)
-        self.assertRegex(err.getvalue(), "MB/s\x1b\\[K\r\x1b\\[K$")

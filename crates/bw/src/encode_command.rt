@@ -2,9 +2,11 @@
 use crate::failure::{CommandFailure, or_write_failure};
 use crate::opened::open;
 use crate::out_file::OutFile;
-use bw_cli::Marks;
+use bw_cli::{Marks, Selected};
 use bw_file::{FromRead, Layout};
-use bw_shell::{Dialect, encode};
+use bw_model::{Fault, MAX_COLUMNS, MAX_ROWS, code};
+use bw_shell::{Dialect, Selection, encode};
+use std::alloc::{AllocError, Global};
 use std::hash::RandomState;
 
 /// Runs `bw encode`. The CSV is opened first; what its codes stand for is created by the first write,
@@ -12,6 +14,7 @@ use std::hash::RandomState;
 pub fn run_encode<'a>(
     rt: &HostRuntime,
     marks: Marks<'a>,
+    selected: Selected<'a>,
     layout: Layout,
     csv_path: &'a str,
     out: &str,
@@ -19,6 +22,15 @@ pub fn run_encode<'a>(
 ) -> Result<(), CommandFailure<'a>> {
     let Some(dialect) = dialect_of(marks) else {
         return Ok(());
+    };
+    let places = match places_of(rt.alloc(), selected.columns) {
+        Ok(places) => places,
+        Err(_) => return Err(CommandFailure::new(Fault::new(code::OUT_OF_MEMORY))),
+    };
+    let selection = Selection {
+        rows: selected.rows.and_then(rows_of),
+        columns: selected.columns.and(Some(&places)),
+        is_filled: selected.is_filled,
     };
     let mut csv = open(rt, csv_path)?;
     let hasher = match RandomState::new(rt) {
@@ -32,6 +44,7 @@ pub fn run_encode<'a>(
         rt.alloc(),
         hasher,
         dialect,
+        selection,
         layout,
         &mut source,
         &mut fields,
@@ -77,5 +90,56 @@ fn byte_of(mark: &str) -> Option<u8> {
     match mark.as_bytes() {
         [byte] if *byte != b'\n' && *byte != b'\r' => Some(*byte),
         _ => None,
+    }
+}
+
+/// Returns whether `--rows` is a number of rows that a table can have.
+pub fn is_row_limit(selected: Selected<'_>) -> bool {
+    match selected.rows {
+        Some(rows) => rows_of(rows).is_some(),
+        None => true,
+    }
+}
+
+/// Returns whether `--columns` numbers 1 to 64 fields from 1, each once.
+pub fn is_column_list(selected: Selected<'_>) -> bool {
+    let Some(list) = selected.columns else {
+        return true;
+    };
+    let is_again = |at: usize, place: Option<u32>| {
+        list.split(',').take(at).any(|word| place_of(word) == place)
+    };
+    list.split(',').count() <= MAX_COLUMNS
+        && list.split(',').enumerate().all(|(at, word)| place_of(word).is_some()
+            && !is_again(at, place_of(word)))
+}
+
+/// Returns the places of the fields that a list numbers; none, if there is no list.
+fn places_of(alloc: Global, list: Option<&str>) -> Result<Vec<u32>, AllocError> {
+    let mut places = Vec::new(alloc);
+    for word in list.unwrap_or("").split(',') {
+        if let Some(place) = place_of(word) {
+            places.push(place)?;
+        }
+    }
+    Ok(places)
+}
+
+/// Returns the place, from 0, of a field that is numbered from 1.
+fn place_of(word: &str) -> Option<u32> {
+    whole_number(word)?.checked_sub(1)
+}
+
+/// Returns a number of rows that a table can have.
+fn rows_of(word: &str) -> Option<u32> {
+    whole_number(word).filter(|rows| *rows <= MAX_ROWS)
+}
+
+/// Returns the number that digits spell, if it has 32 bits.
+fn whole_number(word: &str) -> Option<u32> {
+    if word.bytes().all(|byte| byte.is_ascii_digit()) {
+        word.parse().ok()
+    } else {
+        None
     }
 }

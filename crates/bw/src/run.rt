@@ -1,6 +1,6 @@
 //! Runs the command of the command line, and returns the exit status.
 use crate::csv_commands::{run_direct, run_infer, run_load};
-use crate::encode_command::{dialect_of, run_encode};
+use crate::encode_command::{dialect_of, is_column_list, is_row_limit, run_encode};
 use crate::explain::{explain_failure, explain_fallback};
 use crate::failure::CommandFailure;
 use crate::out_file::is_same_file;
@@ -40,16 +40,8 @@ fn run_invocation(rt: &HostRuntime, asked: Invocation<'_>) -> u8 {
         return USAGE;
     }
     let told = is_explained || rt.stderr().is_terminal();
-    if let CommandArgs::Encode { marks, .. } = words
-        && dialect_of(marks).is_none()
-    {
-        let _ = eprintln!(rt;
-            "error: each mark is one byte, no line end, and differs from the others"
-        );
-        return USAGE;
-    }
-    if is_fields_taken(rt, &words) {
-        let _ = eprintln!(rt; "error: FIELDS can't be CSV or OUT too");
+    if let Some(error) = encode_error(rt, &words) {
+        let _ = eprintln!(rt; "error: {}", error);
         return USAGE;
     }
     match run_command(rt, words, &programs, told) {
@@ -72,6 +64,29 @@ fn input_as_output<'a>(rt: &HostRuntime, words: &CommandArgs<'a>) -> Option<&'a 
         .into_iter()
         .flatten()
         .find(|input| is_same_file(rt, input, out))
+}
+
+/// Returns what is wrong with the command line of `bw encode`, if something is.
+fn encode_error(rt: &HostRuntime, words: &CommandArgs<'_>) -> Option<&'static str> {
+    let CommandArgs::Encode {
+        marks,
+        selected,
+        ..
+    } = words
+    else {
+        return None;
+    };
+    if dialect_of(*marks).is_none() {
+        Some("each mark is one byte, no line end, and differs from the others")
+    } else if !is_column_list(*selected) {
+        Some("--columns takes 1 to 64 numbers of fields, from 1, such as 3,1,5, each once")
+    } else if !is_row_limit(*selected) {
+        Some("--rows takes a whole number up to 16777216")
+    } else if is_fields_taken(rt, words) {
+        Some("FIELDS can't be CSV or OUT too")
+    } else {
+        None
+    }
 }
 
 /// Returns whether the second file that `bw encode` writes is its input, or the first one.
@@ -124,11 +139,12 @@ fn run_command<'a>(
         } => run_load(rt, layout, schema, csv, out)?,
         CommandArgs::Encode {
             marks,
+            selected,
             layout,
             csv,
             out,
             fields,
-        } => run_encode(rt, marks, layout, csv, out, fields)?,
+        } => run_encode(rt, marks, selected, layout, csv, out, fields)?,
         CommandArgs::Recode {
             table,
             schema,

@@ -12,6 +12,15 @@ pub struct Marks<'a> {
     pub is_lenient: bool,
 }
 
+/// The options of `bw encode` that select rows and fields of a CSV text, as they were given, and
+/// whether records may have fewer fields than the heading.
+#[derive(Clone, Copy)]
+pub struct Selected<'a> {
+    pub rows: Option<&'a str>,
+    pub columns: Option<&'a str>,
+    pub is_filled: bool,
+}
+
 /// A command and its arguments. All but the SQL and the name of a table are file names.
 #[derive(Clone, Copy)]
 pub enum CommandArgs<'a> {
@@ -38,6 +47,7 @@ pub enum CommandArgs<'a> {
     },
     Encode {
         marks: Marks<'a>,
+        selected: Selected<'a>,
         layout: Layout,
         csv: &'a str,
         out: &'a str,

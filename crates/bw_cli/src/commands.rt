@@ -3,7 +3,7 @@
 //! FIELDS`, `bw recode IN SCHEMA NUMBERS OUT`, `bw query [--program FILE] [--stats] TABLE SQL`, `bw session [--program FILE]... [--stats] TABLE`, `bw plan SCHEMA SQL`,
 //! `bw certify SCHEMA SQL PROGRAM`, `bw check SCHEMA SQL FILE`, `bw info TABLE` and `bw dump TABLE`.
 //! Each takes `--explain`, before the command or after it.
-use crate::args::{CommandArgs, Marks};
+use crate::args::{CommandArgs, Marks, Selected};
 use bw_file::Layout;
 use clap::{Arg, ArgAction, ArgMatches, Command, Error};
 use std::alloc::{AllocError, Global};
@@ -23,6 +23,7 @@ enum ArgSpec {
     Valued(ArgAction, &'static str, &'static str, &'static str),
     Layout,
     Lenient,
+    Fill,
     Stats,
 }
 
@@ -75,6 +76,20 @@ const COMMENT: ArgSpec = ArgSpec::Valued(
     "comment",
     "C",
     "The first byte of lines to leave out (default: none)",
+);
+
+const COLUMNS: ArgSpec = ArgSpec::Valued(
+    ArgAction::Set,
+    "columns",
+    "LIST",
+    "The fields to load, such as 3,1,5: the heading's first is 1 (default: all)",
+);
+
+const ROWS: ArgSpec = ArgSpec::Valued(
+    ArgAction::Set,
+    "rows",
+    "N",
+    "Stop after N rows, and end FIELDS with the number of bytes before the next",
 );
 
 const OUT: ArgSpec = ArgSpec::File("OUT", "The table file to create or replace");
@@ -146,6 +161,9 @@ const COMMANDS: [CommandSpec; 12] = [
             ESCAPE,
             COMMENT,
             ArgSpec::Lenient,
+            ArgSpec::Fill,
+            COLUMNS,
+            ROWS,
             ArgSpec::Layout,
             ANY_CSV,
             OUT,
@@ -269,6 +287,9 @@ fn argument<'a>(alloc: Global, spec: ArgSpec) -> Arg<'a> {
         ArgSpec::Lenient => flag(alloc, "lenient").help(
             "Accept text after a closing quotation mark, and one that is open at the end",
         ),
+        ArgSpec::Fill => flag(alloc, "fill").help(
+            "Add empty fields to a record that has fewer than the heading",
+        ),
         ArgSpec::Stats => flag(alloc, "stats").help("Print scan statistics to standard error"),
     }
 }
@@ -381,6 +402,11 @@ fn encode_args<'a>(found: &ArgMatches<'a>) -> Option<CommandArgs<'a>> {
             escape: found.get_str("escape"),
             comment: found.get_str("comment"),
             is_lenient: found.get_flag("lenient"),
+        },
+        selected: Selected {
+            rows: found.get_str("rows"),
+            columns: found.get_str("columns"),
+            is_filled: found.get_flag("fill"),
         },
         layout: layout_of(found),
         csv: found.get_str("CSV")?,

@@ -8,5 +8,5 @@ mod args;
 mod commands;
 mod invocation;
 
-pub use args::{CommandArgs, Marks};
+pub use args::{CommandArgs, Marks, Selected};
 pub use invocation::{Invocation, USAGE, parse_invocation, process_args};

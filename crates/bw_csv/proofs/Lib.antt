@@ -12,4 +12,5 @@ pub mod PlainRows
 pub mod RecordLemmas
 pub mod RestLemmas
 pub mod RowLemmas
+pub mod TurnLemmas
 pub mod FaultPlaceLemmas

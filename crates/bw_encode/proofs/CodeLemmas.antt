@@ -24,7 +24,7 @@ abbrev as_value : ℕ → Value
 as_value code = Some (pos code)
 
 -- a list in order has a field at one place only
-one_place : (list : List (List ℕ)) → IsAscending list → (i j : ℕ) → i < length list → j < length list → get_or list i [] ≡ get_or list j [] → i ≡ j
+pub one_place : (list : List (List ℕ)) → IsAscending list → (i j : ℕ) → i < length list → j < length list → get_or list i [] ≡ get_or list j [] → i ≡ j
 one_place list up i j a b same = by (nat_lt i j) refl (nat_lt j i) refl
   where
     sorted : IsStrictlySortedBy (slice_cmp nat_cmp) list
@@ -99,7 +99,7 @@ module _ (fields list : List (List ℕ)) (counts codes : List ℕ) (is : IsEncod
     null = no_null codes;
   }
 
-sorted_list : (list : List (List ℕ)) → IsAscending list → IsStrictlySortedBy (slice_cmp nat_cmp) list
+pub sorted_list : (list : List (List ℕ)) → IsAscending list → IsStrictlySortedBy (slice_cmp nat_cmp) list
 sorted_list list up = sorted_from_all_adjacent nat_list_cmp_total list [] up
 
 -- codes compare as the fields do

@@ -9,6 +9,7 @@ use Rattle.std.proofs.lemmas.List.{get_or-map, map-append, map_more, length-map,
 use Rattle.std.proofs.lemmas.Map.Keys.{IsDistinct-head, IsDistinct-tail, apart_from_distinct}
 use Rattle.bw_encode.specs.Dictionary.{occurrences}
 use Rattle.bw_encode.specs.FieldSet.{AreDistinct}
+use Rattle.bw_encode.proofs.SetLemmas.{placed_size, rank_at}
 
 module _ (p q : List ℕ → ℕ) (f : List ℕ) (here : q f ≡ p f + 1) (there : (y : List ℕ) → bytes_eq y f ≡ false → q y ≡ p y) where
   others : (xs : List (List ℕ)) → AllByRecursion (λ y. bytes_eq f y ≡ false) xs → map p xs ≡ map q xs
@@ -86,3 +87,15 @@ coded_row fields xs counts codes row place n coded distinct in' lt is value =
       counted = rw (zero', coded.counted) (counts_more fields xs row place distinct lt in' is);
       coded = coded_more fields xs codes row place in' lt is coded.coded;
     }
+
+-- the code of a row, by the place of its field and the place's rank
+pub code_is : (fields firsts sorted : List (List ℕ)) (places ranks : List ℕ) → map (slice_get firsts) places ≡ map Some fields → map (slice_get sorted) ranks ≡ map Some firsts
+    → (row place code : ℕ) → row < length places → place ≡ get_or places row place
+    → (place < length ranks) × (code ≡ get_or ranks place code → (code < length sorted) × (get_or sorted code [] ≡ get_or fields row []))
+code_is fields firsts sorted places ranks placed ranked row place code lt at =
+    let size = placed_size firsts fields places placed in
+    let in' : row < length fields = omega arith in
+    let all = rank_at fields firsts sorted places ranks placed ranked row in' in
+    let place' : place ≡ get_or places row 0 = at ∙ same_default places row place 0 lt in
+    let low : place < length ranks = rw place' all.0 in
+    (low, λ is. let code' : code ≡ get_or ranks (get_or places row 0) 0 = is ∙ same_default ranks place code 0 low ∙ ap (λ n. get_or ranks n 0) place' in rw code' (all.1, all.2))

@@ -6,8 +6,12 @@ pub mod EncodeLemmas
 pub mod FuelLemmas
 pub mod NameLemmas
 pub mod NumberLemmas
+pub mod OneLemmas
+pub mod RankLemmas
 pub mod ReadLemmas
+pub mod RestLemmas
 pub mod RowLemmas
+pub mod RunLemmas
 pub mod SeenLemmas
 pub mod TableLemmas
 pub mod SetLemmas

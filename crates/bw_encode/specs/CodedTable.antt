@@ -14,6 +14,10 @@ pub record HasRows (columns : TextColumns) (table : FieldRows) : Type 0 where
   pub nonempty : 1 ≤ table.width
   pub within : table.width ≤ most_columns
 
+-- how many bytes of the text were read
+abbrev pub bytes_in : TextColumns → ℕ
+bytes_in columns = columns.bytes_read
+
 abbrev pub encodings_in : CodedTable → List Encoding
 encodings_in table = map encoding_of table.columns.items
 

@@ -1,6 +1,6 @@
 -- The text that says what the codes of a table's columns stand for. Numbers are little-endian, of
 -- eight bytes.
-use Rattle.std.specs.Prelude.{ℕ, List, [], ◌∷◌, ◌++◌, length, codes}
+use Rattle.std.specs.Prelude.{ℕ, List, [], ◌∷◌, ◌++◌, length, codes, Option, Some, None}
 use Rattle.std.specs.Int.{w64, to_le_bytes}
 use Rattle.std.specs.List.{flat_map}
 use Rattle.bw_encode.specs.Column.{Encoding, Numbers, Codes}
@@ -37,3 +37,8 @@ encoding_bytes (Codes list counts codes) = 1 ∷ list_bytes list counts
 unfoldable pub fields_text : List Encoding → List ℕ
 fields_text encodings = magic ++ number_bytes (length encodings)
     ++ flat_map encoding_bytes encodings
+
+-- after a limit of rows: how many bytes of the CSV text were read
+abbrev pub end_bytes : Option ℕ → ℕ → List ℕ
+end_bytes None bytes = []
+end_bytes (Some rows) bytes = number_bytes bytes

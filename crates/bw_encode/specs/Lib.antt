@@ -9,7 +9,11 @@ pub mod FieldSet
 pub mod FieldsText
 pub mod Number
 pub mod Place
+pub mod Ranked
 pub mod Records
+pub mod Rest
 pub mod Rows
+pub mod Run
 pub mod Seen
+pub mod Selection
 pub mod Table

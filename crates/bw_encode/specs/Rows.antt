@@ -1,5 +1,5 @@
 -- The rows of a CSV text: the records after its heading, or its first error.
-use Rattle.std.specs.Prelude.{◌≡◌, ◌<◌, ◌==◌, ◌+◌, ◌&&◌, ◌||◌, ◌++◌, ℕ, Bool, not, List, [], ◌∷◌}
+use Rattle.std.specs.Prelude.{◌≡◌, ◌<◌, ◌+◌, ◌&&◌, ◌||◌, ◌++◌, ℕ, Bool, not, List, [], ◌∷◌}
 use Rattle.std.specs.Prelude.{length, map, nat_le, nat_lt, Option, Result, Ok, Err, slice_index_or}
 use Rattle.csv.specs.Reading.{strip_bom}
 use Rattle.csv.specs.declared.parser.State.TheVariants as st
@@ -11,9 +11,11 @@ use Rattle.bw_model.specs.Limits.{most_columns, most_rows}
 use Rattle.bw_io.specs.Sink.{is_write_fault}
 use Rattle.bw_io.specs.Source.{is_read_fault}
 use Rattle.bw_encode.specs.declared.dialect.Dialect.{Dialect}
+use Rattle.bw_encode.specs.declared.selection.Selection.{Selection}
 use Rattle.bw_encode.specs.Dialect.{is_at, loose_in, records_of}
+use Rattle.bw_encode.specs.Selection.{Places, are_there, count_in, has_length, row_of, up_to}
 
--- the number of columns of a text, and the fields of each row
+-- the number of columns, and the fields of each row
 pub record FieldRows : Type 0 where
   pub width : ℕ
   pub rows : List (List (List ℕ))
@@ -26,42 +28,45 @@ abbrev pub with_row : List (List ℕ) → Result (List (List (List ℕ))) Fault
     → Result (List (List (List ℕ))) Fault
 with_row row more = more >>= λ rows. Ok (row ∷ rows)
 
--- a record of this many fields and this number, or its first error: it is rejected for its
--- quotation marks, has another number of fields than the heading, or is past 2^24
-abbrev pub record_checked : Bool → ℕ → ℕ → ℕ → Result (Unit {0}) Fault
-record_checked is_rejected count width number =
+-- a record of this number, or its first error: it is rejected for its quotation marks, has a wrong
+-- number of fields, or is past 2^24
+abbrev pub record_checked : Bool → Bool → ℕ → Result (Unit {0}) Fault
+record_checked is_rejected is_right number =
     refused_if is_rejected (at_record CSV_FAULT number)
-    (refused_if (not (count == width)) (at_record RECORD_LENGTH number)
+    (refused_if (not is_right) (at_record RECORD_LENGTH number)
     (refused_if (nat_lt most_rows number) (at_record TOO_MANY_ROWS number) (Ok tt)))
 
 -- the rows of records, the first of which has this number, or the first error
-unfoldable pub rows_from : ℕ → Option ℕ → ℕ → List (List (List ℕ))
+unfoldable pub rows_from : Selection → ℕ → Option ℕ → ℕ → List (List (List ℕ))
     → Result (List (List (List ℕ))) Fault
-rows_from width loose number [] = Ok []
-rows_from width loose number (fields ∷ more) =
-    record_checked (is_at loose number) (length fields) width number
-    >>= λ _. with_row fields (rows_from width loose (number + 1) more)
+rows_from selection width loose number [] = Ok []
+rows_from selection width loose number (fields ∷ more) =
+    record_checked (is_at loose number) (has_length selection.is_filled (length fields) width)
+    number
+    >>= λ _. with_row (row_of selection width fields)
+    (rows_from selection width loose (number + 1) more)
 
--- a heading of this many fields, or its first error: it is rejected for its quotation marks, or
--- hasn't 1 to 64 fields
-abbrev pub heading_checked : Bool → ℕ → Result (Unit {0}) Fault
-heading_checked is_rejected width =
+-- a heading of this many fields, or its first error: it is rejected for its quotation marks; the
+-- columns aren't 1 to 64, or one of them isn't there
+abbrev pub heading_checked : Places → Bool → ℕ → Result (Unit {0}) Fault
+heading_checked places is_rejected width =
     refused_if is_rejected (at_record CSV_FAULT 0)
-    (refused_if (not (nat_le 1 width && nat_le width most_columns)) (at_record COLUMN_COUNT 0)
-    (Ok tt))
+    (refused_if (not (nat_le 1 (count_in places width) && nat_le (count_in places width)
+    most_columns && are_there places width)) (at_record COLUMN_COUNT 0) (Ok tt))
 
 -- the rows of records, the first of which is the heading, or the first error: there is no record,
--- and then those of the heading and of the records after it
-unfoldable pub rows_after : Option ℕ → List (List (List ℕ)) → Result FieldRows Fault
-rows_after loose [] = Err (at_record NO_HEADING 0)
-rows_after loose (heading ∷ more) =
-    heading_checked (is_at loose 0) (length heading)
-    >>= λ _. rows_from (length heading) loose 1 more
-    >>= λ rows. Ok (field_rows (length heading) rows)
+-- and then those of the heading and of the records after it, up to the limit of rows
+unfoldable pub rows_after : Selection → Option ℕ → List (List (List ℕ)) → Result FieldRows Fault
+rows_after selection loose [] = Err (at_record NO_HEADING 0)
+rows_after selection loose (heading ∷ more) =
+    heading_checked selection.columns (is_at loose 0) (length heading)
+    >>= λ _. rows_from selection (length heading) loose 1 (up_to selection.rows more)
+    >>= λ rows. Ok (field_rows (count_in selection.columns (length heading)) rows)
 
 -- the rows of a text, without the byte order mark at its start, if it has one, or its first error
-abbrev pub rows_of : Dialect → List ℕ → Result FieldRows Fault
-rows_of dialect text = rows_after (loose_in dialect 0 st.StartRecord (strip_bom text))
+abbrev pub rows_of : Dialect → Selection → List ℕ → Result FieldRows Fault
+rows_of dialect selection text =
+    rows_after selection (loose_in dialect 0 st.StartRecord (strip_bom text))
     (records_of dialect text)
 
 -- the field of each row in a column

@@ -29,7 +29,7 @@ impl Coded<'_> {
         ensures { result ≡ slice_index_or (values_in (encoding_of self.now)) row None }
     {
         match &self.dictionary {
-            None => number_of(self.fields.field(row)),
+            None => number_of(self.fields.get(row)),
             Some(dictionary) => Some(i64::from(dictionary.codes[row])),
         }
     }

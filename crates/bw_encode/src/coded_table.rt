@@ -4,48 +4,69 @@ use crate::columns::read_columns;
 use crate::dialect::Dialect;
 use crate::fields::Fields;
 use crate::fields_text::fields_text;
+use crate::selection::Selection;
 use crate::table::{deliver_rows, schema_of};
 use bw_model::{Fault, RowConsumer, Schema};
 use std::alloc::{AllocError, Global};
 use std::hash::RandomState;
 
-/// The fields of a CSV text's rows, by columns.
+/// The fields of a CSV text's rows, by columns, and how many bytes of the text were read.
 #[derive(Drop)]
 pub struct TextColumns {
     columns: Vec<Fields>,
+    bytes_read: usize,
 }
 
 impl TextColumns {
     ghost use Rattle.std.specs.Prelude.{◌≡◌, IfOk, IfErr, Ok, Err, false, length};
     ghost use Rattle.bw_model.specs.Fault.{is_memory};
     ghost use Rattle.bw_encode.specs.CodedTable.{AreEncodingsOf, HasRows, IsCodedTable};
-    ghost use Rattle.bw_encode.specs.CodedTable.{encodings_in, rows_in};
+    ghost use Rattle.bw_encode.specs.CodedTable.{bytes_in, encodings_in, rows_in};
+    ghost use Rattle.bw_encode.specs.Rest.{bytes_read};
     ghost use Rattle.bw_encode.specs.Rows.{FieldRows, is_device_fault, rows_of};
 
-    /// Reads the records of a text after its heading, which has as many fields as each of them. In
-    /// memory are then the bytes of all fields, and eight more a field.
+    /// Reads the selected fields of the records of a text after its heading. In memory are then the
+    /// bytes of these fields, and eight more a field.
     ///
     /// Errors: the first wrong record, of which the heading is record 0: 201, a text without a
     /// record; then for the heading 209, a loose quotation mark, unless the dialect is lenient, and
-    /// 105, not 1 to 64 fields; and for each record after it 209, then 203, another number of
-    /// fields, and 207, a row past 2^24. 801 if memory is refused.
-    pub fn read(alloc: Global, dialect: Dialect, text: &[u8]) -> Result<Self, Fault>
+    /// 105, not 1 to 64 columns, or one that isn't there; and for each record after it 209, then
+    /// 203, another number of fields, or a greater one if records are filled, and 207, a row past
+    /// 2^24. Records past the limit of rows have no errors. 801 if memory is refused.
+    pub fn read(
+        alloc: Global,
+        dialect: Dialect,
+        selection: Selection<'_>,
+        text: &[u8],
+    ) -> Result<Self, Fault>
         ensures rows { IfOk result (λ columns. (table : FieldRows)
-            × (rows_of dialect text.now ≡ Ok table) × HasRows columns table) }
+            × (rows_of dialect selection.entry text.now ≡ Ok table) × HasRows columns table) }
+        ensures end { IfOk result (λ columns. bytes_in columns
+            ≡ bytes_read dialect selection.entry.rows text.now) }
         ensures fault { IfErr result (λ fault. is_memory fault ≡ false
-            → rows_of dialect text.now ≡ Err fault) }
+            → rows_of dialect selection.entry text.now ≡ Err fault) }
         ensures device { IfErr result (λ fault. is_device_fault fault ≡ false) }
     {
+        let read = read_columns(alloc, dialect, selection, text)?;
         Ok(TextColumns {
-            columns: read_columns(alloc, dialect, text)?,
+            columns: read.columns,
+            bytes_read: read.bytes_read,
         })
     }
 
-    /// Returns the columns, coded: one whose fields are all empty or whole numbers of 64 bits, as
+    /// Returns how many bytes of the text precede the first record that wasn't read; all, if none
+    /// is left.
+    pub fn bytes_read(&self) -> usize
+        ensures { result ≡ bytes_in self.now }
+    {
+        self.bytes_read
+    }
+
+    /// Encodes the columns: one whose fields are all empty or whole numbers of 64 bits, as
     /// they are printed, and less than 2^63 apart, has these numbers; any other has codes, the
     /// places of its fields in the list of its distinct fields in the order of bytes. Fields are
     /// found by hashes that depend on the hasher's keys. Fails only if memory is refused.
-    pub fn coded(&self, alloc: Global, hasher: RandomState) -> Result<CodedTable<'_>, AllocError>
+    pub fn encode(&self, alloc: Global, hasher: RandomState) -> Result<CodedTable<'_>, AllocError>
         requires { (table : FieldRows) × HasRows self.now table }
         ensures coded { IfOk result IsCodedTable }
         ensures encodings { IfOk result (λ coded. (table : FieldRows) → HasRows self.now table

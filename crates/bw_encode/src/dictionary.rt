@@ -1,12 +1,14 @@
 //! A column's fields as places in the list of its distinct fields.
-ghost use Rattle.std.specs.Prelude.{◌≡◌, ◌≤◌, All, Contains, IfOk, length};
+ghost use Rattle.std.specs.Prelude.{◌≡◌, ◌≤◌, [], All, Contains, IfOk, OnOk, Some, length, map};
+ghost use Rattle.std.specs.Prelude.{slice_get};
 ghost use Rattle.bw_model.specs.Limits.{most_rows};
-ghost use Rattle.bw_encode.specs.Dictionary.{IsAscending, IsEncoded};
+ghost use Rattle.bw_encode.specs.Dictionary.{IsEncoded};
 ghost use Rattle.bw_encode.specs.Fields.{texts_under};
 ghost use Rattle.bw_encode.specs.FieldSet.{fields_in, AreDistinct};
 
 use crate::field_set::FieldSet;
 use crate::fields::Fields;
+use crate::ranked::{SortedFields, sort_fields};
 use std::alloc::{AllocError, Global};
 use std::hash::RandomState;
 
@@ -31,18 +33,18 @@ pub(crate) fn dictionary_of<'a>(
     ensures encoded { IfOk result (λ dictionary. IsEncoded column.now
         (texts_under dictionary.fields.items) dictionary.counts.items dictionary.codes.items) }
 {
-    let set = sorted_fields(alloc, hasher, column)?;
+    let mut set = FieldSet::new(alloc, hasher);
+    let places = insert_fields(alloc, column, &mut set)?;
+    let firsts = set.fields(alloc)?;
+    let SortedFields { fields, ranks } = sort_fields(alloc, &firsts)?;
     let mut counts: Vec<u32> = Vec::new(alloc);
-    counts.resize(set.len(), 0)?;
-    let mut codes: Vec<u32> = Vec::with_capacity(alloc, column.len())?;
-    for row in 0..column.len() {
-        let Some(place) = set.place_of(column.field(row)) else {
-            unreachable!()
-        };
-        counts[place] += 1;
-        codes.push(place as u32)?;
+    counts.resize(fields.len(), 0)?;
+    let mut codes: Vec<u32> = Vec::with_capacity(alloc, places.len())?;
+    for row in 0..places.len() {
+        let code = ranks[places[row] as usize];
+        counts[code as usize] += 1;
+        codes.push(code)?;
     }
-    let fields = set.fields(alloc)?;
     Ok(Dictionary {
         fields,
         counts,
@@ -50,23 +52,25 @@ pub(crate) fn dictionary_of<'a>(
     })
 }
 
-/// Returns the distinct fields of a column in the order of bytes. Fails only if memory is refused.
-fn sorted_fields<'a>(
+/// Adds the fields of a column to a set, which is empty. Returns the place of each field in it.
+/// Fails only if memory is refused.
+fn insert_fields<'a>(
     alloc: Global,
-    hasher: RandomState,
     column: &'a Fields,
-) -> Result<FieldSet<'a>, AllocError>
-    ensures ascending { IfOk result (λ set. IsAscending (fields_in set)) }
-    ensures distinct { IfOk result (λ set. AreDistinct (fields_in set)) }
-    ensures used { IfOk result (λ set. All (Contains column.now) (fields_in set)) }
-    ensures all { IfOk result (λ set. All (Contains (fields_in set)) column.now) }
-    ensures short { IfOk result
-        (λ set. length (fields_in set) ≤ length column.now) }
+    set: &mut FieldSet<'a>,
+) -> Result<Vec<u32>, AllocError>
+    requires within { length column.now ≤ most_rows }
+    requires empty { fields_in set.old ≡ [] }
+    ensures distinct { OnOk result (AreDistinct (fields_in set.new)) }
+    ensures used { OnOk result (All (Contains column.now) (fields_in set.new)) }
+    ensures short { OnOk result (length (fields_in set.new) ≤ length column.now) }
+    ensures places { IfOk result (λ places. map (slice_get (fields_in set.new)) places.items
+        ≡ map Some column.now) }
 {
-    let mut set = FieldSet::new(alloc, hasher);
+    let mut places: Vec<u32> = Vec::with_capacity(alloc, column.len())?;
     for row in 0..column.len() {
-        set.insert(column.field(row))?;
+        let place = set.insert(column.get(row))?;
+        places.push(place as u32)?;
     }
-    set.sort()?;
-    Ok(set)
+    Ok(places)
 }

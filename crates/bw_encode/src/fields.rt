@@ -40,13 +40,24 @@ impl Fields {
     }
 
     /// Returns the field at a place, which must be there.
-    pub(crate) fn field(&self, place: usize) -> &[u8]
+    pub(crate) fn get(&self, place: usize) -> &[u8]
         requires { place < length self.now }
         ensures { result.now ≡ slice_index_or self.now place [] }
     {
         match self.record.get(place) {
             Some(field) => field,
             None => &[],
+        }
+    }
+
+    /// Returns the field at a place, or an empty one if it isn't there.
+    pub(crate) fn get_or_empty(&self, place: usize) -> &[u8]
+        ensures { result.now ≡ slice_index_or self.now place [] }
+    {
+        if place < self.len() {
+            self.get(place)
+        } else {
+            &[]
         }
     }
 

@@ -3,7 +3,7 @@ ghost use Rattle.std.specs.Prelude.{◌≡◌, ◌++◌, IfOk, OnOk, length, map
 ghost use Rattle.std.specs.List.{flat_map};
 ghost use Rattle.bw_encode.specs.Coded.{encoding_of};
 ghost use Rattle.bw_encode.specs.Fields.{texts_under};
-ghost use Rattle.bw_encode.specs.FieldsText.{encoding_bytes, fields_bytes, fields_text};
+ghost use Rattle.bw_encode.specs.FieldsText.{encoding_bytes, end_bytes, fields_bytes, fields_text};
 ghost use Rattle.bw_encode.specs.FieldsText.{lengths_bytes};
 ghost use Rattle.bw_encode.specs.FieldsText.{list_bytes, number_bytes, numbers_bytes};
 
@@ -20,6 +20,20 @@ pub(crate) fn fields_text(alloc: Global, columns: &[Coded<'_>]) -> Result<Vec<u8
     push_number(&mut text, columns.len() as u64)?;
     push_columns(&mut text, columns)?;
     Ok(text)
+}
+
+/// Adds how many bytes of the CSV text were read, if there is a limit of rows.
+pub(crate) fn push_end(
+    text: &mut Vec<u8>,
+    rows: Option<u32>,
+    bytes_read: usize,
+) -> Result<(), AllocError>
+    ensures { OnOk result (text.new.items ≡ text.old.items ++ end_bytes rows bytes_read) }
+{
+    match rows {
+        Some(_) => push_number(text, bytes_read as u64),
+        None => Ok(()),
+    }
 }
 
 /// Adds what each column is.

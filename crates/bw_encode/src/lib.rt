@@ -7,8 +7,9 @@
 //! of bytes. The first text has these lists, with how often each field occurs. A [`TableMaker`]
 //! makes the table's bytes, so this crate doesn't depend on a file's format.
 //!
-//! Read `specs/Encode.antt` for what the call does, `specs/Rows.antt` for the rows of a text and
-//! its first error, `specs/Column.antt` and `specs/Dictionary.antt` for what encodes a column,
+//! Read `specs/Encode.antt` for what the call does, `specs/Selection.antt` and `specs/Rows.antt` for
+//! the rows of a text and its first error, `specs/Rest.antt` for where a limit of rows stops,
+//! `specs/Column.antt` and `specs/Dictionary.antt` for what encodes a column,
 //! `specs/FieldsText.antt` and `specs/Table.antt` for what is written; then `encode_call.rt` and
 //! `coded_table.rt`. [`TextColumns`] and [`CodedTable`] are the steps of the call.
 #![tactic(auto)]
@@ -26,13 +27,16 @@ mod laws;
 mod number;
 mod numbers;
 mod place;
+mod ranked;
 mod records;
 mod seen;
+mod selection;
 mod table;
 mod table_maker;
 
 pub use coded_table::{CodedTable, TextColumns};
 pub use dialect::Dialect;
 pub use encode_call::encode_text;
-pub use laws::codes_compare_as_fields;
+pub use laws::{a_column_has_one_encoding, a_text_goes_on_at_its_rest, codes_compare_as_fields};
+pub use selection::Selection;
 pub use table_maker::TableMaker;

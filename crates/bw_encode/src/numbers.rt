@@ -18,9 +18,9 @@ pub(crate) fn numbers_in(column: &Fields) -> Option<Seen>
     ensures seen { IfSome result (λ seen. IsSeenOf (map bound_of column.now) seen) }
     ensures range { IfSome result (λ seen. IsTrue (is_range seen.lo seen.hi)) }
 {
-    let mut seen = Seen::nothing();
+    let mut seen = Seen::new();
     for row in 0..column.len() {
-        let Some(value) = value_of(column.field(row)) else {
+        let Some(value) = value_of(column.get(row)) else {
             return None;
         };
         seen = seen.and(value);

@@ -4,6 +4,7 @@ ghost use Rattle.csv.specs.Machine.{step, in_field, start_field, start_record, e
 ghost use Rattle.csv.specs.Machine.{is_byte, is_end};
 ghost use Rattle.bw_encode.specs.Dialect.{config_of, goes_on_bare, is_open};
 ghost use Rattle.bw_encode.specs.Place.{state_of, action_of};
+ghost use Rattle.bw_encode.specs.Run.{joins_bare, joins_quoted};
 
 use crate::dialect::Dialect;
 
@@ -126,6 +127,20 @@ fn ends_record(next: Place) -> Step
 {
     let action = Action::EndsRecord;
     Step { next, action }
+}
+
+/// Returns whether a byte in an unquoted field is one of its own.
+pub(crate) fn joins_bare(separator: u8, c: u8) -> bool
+    ensures { result ≡ joins_bare separator c }
+{
+    !(c == separator || c == b'\r' || c == b'\n')
+}
+
+/// Returns whether a byte within quotation marks is one of the field's own.
+pub(crate) fn joins_quoted(dialect: Dialect, c: u8) -> bool
+    ensures { result ≡ joins_quoted dialect c }
+{
+    !(c == dialect.quote || is_byte(dialect.escape, c))
 }
 
 /// Returns whether the byte is this one, if there is one.

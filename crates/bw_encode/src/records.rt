@@ -6,11 +6,15 @@ ghost use Rattle.csv.specs.Machine.{fields_after, field_after, next_record, step
 ghost use Rattle.csv.specs.declared.parser.State.TheVariants as st;
 ghost use Rattle.bw_encode.specs.Dialect.{config_of, loose_from, records_in};
 ghost use Rattle.bw_encode.specs.Place.{action_of, state_of};
+ghost use Rattle.std.specs.List.{prefix_len};
 ghost use Rattle.bw_encode.specs.Records.{IsReadAs, HasNoRecord};
+ghost use Rattle.bw_encode.specs.Run.{joins_bare, joins_quoted, run_length};
 
 use crate::dialect::Dialect;
 use crate::fields::Fields;
-use crate::place::{Action, Place, ends_at_end, goes_on_bare, is_end, is_open, step_of};
+use crate::place::{
+    Action, Place, ends_at_end, goes_on_bare, is_end, is_open, joins_bare, joins_quoted, step_of,
+};
 use std::alloc::AllocError;
 
 /// What follows a record: the rest of the text, and the place of its first byte; and whether the
@@ -39,18 +43,25 @@ pub(crate) fn read_record<'a>(
     field.clear();
     let mut at = place;
     let mut is_loose = false;
-    for (i, c) in text.iter().enumerate() {
-        let step = step_of(dialect, at, *c);
-        take_byte(step.action, *c, fields, field)?;
+    let mut i = 0;
+    'bytes: while i < text.len() {
+        let c = text[i];
+        i += 1;
+        let step = step_of(dialect, at, c);
+        take_byte(step.action, c, fields, field)?;
         is_loose = either(is_loose, goes_on_bare(at, step.next));
         at = step.next;
         if is_end(step.action) {
             return Ok(Some(After {
-                text: skip_bytes(text, i + 1),
+                text: skip_bytes(text, i),
                 place: at,
                 is_loose,
             }));
         }
+        let rest = skip_bytes(text, i);
+        let run = run_length(dialect, at, rest);
+        field.extend_from_slice(&rest[..run])?;
+        i += run;
     }
     if !ends_at_end(at) {
         return Ok(None);
@@ -61,6 +72,38 @@ pub(crate) fn read_record<'a>(
         place: Place::Before,
         is_loose: either(is_loose, is_open(at)),
     }))
+}
+
+/// Returns how many bytes of a text join the field at hand, from a place in it on.
+fn run_length(dialect: Dialect, place: Place, text: &[u8]) -> usize
+    ensures is { result ≡ run_length dialect (state_of place) text.now }
+    ensures within { result ≤ length text.now }
+{
+    match place {
+        Place::Bare => bare_length(dialect.separator, text),
+        Place::Quoted => quoted_length(dialect, text),
+        _ => 0,
+    }
+}
+
+/// Returns how many bytes of a text precede the end of an unquoted field.
+fn bare_length(separator: u8, text: &[u8]) -> usize
+    ensures is { result ≡ prefix_len (joins_bare separator) text.now }
+    ensures within { result ≤ length text.now }
+{
+    text.iter()
+        .take_while(|c| joins_bare(separator, **c))
+        .count()
+}
+
+/// Returns how many bytes of a text precede a quotation mark or an escape.
+fn quoted_length(dialect: Dialect, text: &[u8]) -> usize
+    ensures is { result ≡ prefix_len (joins_quoted dialect) text.now }
+    ensures within { result ≤ length text.now }
+{
+    text.iter()
+        .take_while(|c| joins_quoted(dialect, **c))
+        .count()
 }
 
 /// Does what a byte does. Fails only if memory is refused.

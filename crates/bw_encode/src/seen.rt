@@ -18,7 +18,7 @@ pub(crate) struct Seen {
 
 impl Seen {
     /// Returns what was seen of no value.
-    pub(crate) fn nothing() -> Self
+    pub(crate) fn new() -> Self
         ensures { IsSeenOf [] result }
     {
         Seen {

@@ -26,7 +26,8 @@ use Rattle.bw_file.specs.TableReading.{Found, IsReadAs}
 use Rattle.bw_file.specs.FileBytes.{file_bytes}
 use Rattle.bw_file.specs.AnySegment.{any_meaning, any_is_group}
 
-admitted_in : (columns : List Column) (rows : List (List Value)) (i : ℕ) → list_all (admits_values columns) rows ≡ true → i < length rows
+-- columns that admit all rows admit each
+pub admitted_in : (columns : List Column) (rows : List (List Value)) (i : ℕ) → list_all (admits_values columns) rows ≡ true → i < length rows
     → admits_values columns (get_or rows i []) ≡ true
 admitted_in columns [] i all lt = absurd (omega (arith, lt))
 admitted_in columns (row ∷ rows) zero all lt = (both (admits_values columns row) (list_all (admits_values columns) rows) all).0
@@ -39,7 +40,8 @@ row_wide segment i lt =
     length_admitted (any_meaning segment).columns (get_or (any_meaning segment).rows i [])
     (admitted_in (any_meaning segment).columns (any_meaning segment).rows i (any_is_group segment).admitted lt)
 
-bytes_alike : (a b : Layout) (x y : Schema) (rows : List (List Value)) → a ≡ b → x.name ≡ y.name → x.columns.items ≡ y.columns.items → file_bytes a x rows ≡ file_bytes b y rows
+-- table files of equal parts are equal
+pub bytes_alike : (a b : Layout) (x y : Schema) (rows : List (List Value)) → a ≡ b → x.name ≡ y.name → x.columns.items ≡ y.columns.items → file_bytes a x rows ≡ file_bytes b y rows
 bytes_alike a b x y rows layout name columns = rw (layout, name, columns) refl
 
 -- the text of what an encoder was given, if it was given all rows

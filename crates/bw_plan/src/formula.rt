@@ -1,7 +1,7 @@
 //! The parts of a condition as instructions compute them: comparisons of one column with literals
 //! that an AND or OR combines are one set of codes.
 use crate::columns::{index_of, is_nullable};
-use crate::limits::{MANY_LEVELS, MAX_LIST};
+use crate::limits::{LONG_SET, MANY_LEVELS, MAX_LIST};
 use crate::sets::Set;
 use crate::unplanned::Unplanned;
 use bw_diagram::ColumnComparison;
@@ -71,7 +71,7 @@ impl FormulaReader<'_> {
         let mut before: Option<&Cond> = None;
         for cond in conds {
             if !before.is_some_and(|before| before.is_same(cond)) {
-                parts.add(self.alloc, self.part_of(cond)?, false)?;
+                parts.add(self.alloc, self.part_of(cond)?)?;
             }
             before = Some(cond);
         }
@@ -81,8 +81,8 @@ impl FormulaReader<'_> {
     /// Returns `BETWEEN`.
     fn range(&mut self, x: Operand, y: Operand, z: Operand) -> FormulaResult {
         let mut parts = JoinedParts::new(self.alloc, Junction::All);
-        parts.add(self.alloc, self.comparison(Op::Ge, x, y)?, false)?;
-        parts.add(self.alloc, self.comparison(Op::Le, x, z)?, false)?;
+        parts.add(self.alloc, self.comparison(Op::Ge, x, y)?)?;
+        parts.add(self.alloc, self.comparison(Op::Le, x, z)?)?;
         parts.formula()
     }
 
@@ -95,7 +95,7 @@ impl FormulaReader<'_> {
         for are_literals in [true, false] {
             for item in items {
                 if matches!(item, Operand::Lit(_)) == are_literals {
-                    parts.add(self.alloc, self.comparison(Op::Eq, x, *item)?, true)?;
+                    parts.add_item(self.alloc, self.comparison(Op::Eq, x, *item)?)?;
                 }
             }
         }
@@ -135,15 +135,27 @@ impl JoinedParts {
         }
     }
 
-    /// Adds a part. A set is combined with the last one of its column: if the set that they are
-    /// together is long, only if it may be.
-    fn add(&mut self, alloc: Global, part: Formula, may_be_long: bool) -> Result<(), Unplanned> {
+    /// Adds a part. A set is combined with the last one of its column, unless they are long
+    /// together.
+    fn add(&mut self, alloc: Global, part: Formula) -> Result<(), Unplanned> {
+        self.combine(alloc, part, LONG_SET)
+    }
+
+    /// Adds an item of a list. A set is combined with the last one of its column, however long they
+    /// are together.
+    fn add_item(&mut self, alloc: Global, item: Formula) -> Result<(), Unplanned> {
+        self.combine(alloc, item, usize::MAX)
+    }
+
+    /// Adds a part. A set is combined with the last one of its column, if the bounds of both have
+    /// together at most so many lower bytes.
+    fn combine(&mut self, alloc: Global, part: Formula, most: usize) -> Result<(), Unplanned> {
         self.levels = self.levels.max(part.levels().saturating_add(1));
         if let Formula::Codes(set) = &part {
             let column = usize::from(set.column % 64);
             if let Some(Formula::Codes(last)) = self.parts.get_mut(self.places[column]) {
                 let both = last.join(alloc, self.junction, set)?;
-                if may_be_long || !both.is_long() {
+                if both.lower_bytes() <= most {
                     *last = both;
                     return Ok(());
                 }

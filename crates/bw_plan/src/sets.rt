@@ -52,9 +52,15 @@ impl Set {
         }
     }
 
+    /// Returns how many bytes its bounds have, without their top ones: about as many instructions
+    /// test for its codes.
+    pub(crate) fn lower_bytes(&self) -> usize {
+        self.bounds.len().saturating_mul(usize::from(self.top))
+    }
+
     /// Returns whether it takes many instructions to test for its codes.
     pub(crate) fn is_long(&self) -> bool {
-        self.bounds.len().saturating_mul(usize::from(self.top)) > LONG_SET
+        self.lower_bytes() > LONG_SET
     }
 
     /// Returns whether it has the codes between a bound, by its number, and the one before.

@@ -46,14 +46,14 @@ impl Code<'_> {
             Formula::Columns(compared) => self.compare_columns(*compared, wanted),
             Formula::Null(column) => {
                 let nulls = self.compute(Content::Nulls(*column))?;
-                self.sides(nulls, &[], false, wanted)
+                self.sides(nulls, &[], wanted)
             }
             Formula::Test(part, truth) => {
                 let needed = TruthPair::of(*truth != Truth::No, *truth != Truth::Yes);
                 let made = self.truths(part, needed)?;
                 let held = self.either(made)?;
                 let inverted = *truth == Truth::Unknown;
-                let made = self.sides(held, &[], false, wanted.opposite_if(inverted))?;
+                let made = self.sides(held, &[], wanted.opposite_if(inverted))?;
                 Ok(made.opposite_if(inverted))
             }
             Formula::Not(part) => {
@@ -132,9 +132,12 @@ impl Code<'_> {
         let first = self.open_skips();
         let skips = self.skips.count;
         let held = self.codes(set)?;
-        let early = self.skips.count > skips;
         let wanted = wanted.opposite_if(set.inverted);
-        let made = self.sides(held, &[set.column], early, wanted)?;
+        let made = if self.skips.count > skips {
+            self.sides_by_skips(held, &[set.column], wanted)?
+        } else {
+            self.sides(held, &[set.column], wanted)?
+        };
         self.meet_from(first);
         Ok(made.opposite_if(set.inverted))
     }
@@ -148,19 +151,17 @@ impl Code<'_> {
         self.meet();
         let columns = [index_of(compared.left), index_of(compared.right)];
         let wanted = wanted.opposite_if(compared.negated);
-        let made = self.sides(held, &columns, true, wanted)?;
+        let made = self.sides_by_skips(held, &columns, wanted)?;
         self.meet_from(first);
         Ok(made.opposite_if(compared.negated))
     }
 
     /// Returns the registers that are 1 where all of some columns have values and a register is 1,
-    /// and where they have values and it is 0. With `early`, a skip omits the null planes if no lane
-    /// is left.
+    /// and where they have values and it is 0.
     fn sides(
         &mut self,
         held: Register,
         columns: &[ColumnIndex],
-        early: bool,
         wanted: WantedTruths,
     ) -> MadeTruths {
         let mut made = TruthPair::of(None, None);
@@ -177,11 +178,7 @@ impl Code<'_> {
         if wanted.yes {
             for column in columns {
                 if is_nullable(self.schema, *column) {
-                    if early && !wanted.no {
-                        self.skip(held)?;
-                    }
-                    let values = self.compute(Content::Values(*column))?;
-                    self.set_from(values, held, Instr::And(held, held, values))?;
+                    self.exclude_nulls(held, *column)?;
                 }
             }
             made.yes = Some(held);
@@ -189,6 +186,33 @@ impl Code<'_> {
             self.registers.release(held);
         }
         Ok(made)
+    }
+
+    /// Returns the registers that `sides` does. If the first alone is wanted, a skip omits each null
+    /// plane if no lane is left.
+    fn sides_by_skips(
+        &mut self,
+        held: Register,
+        columns: &[ColumnIndex],
+        wanted: WantedTruths,
+    ) -> MadeTruths {
+        if wanted.no || !wanted.yes {
+            return self.sides(held, columns, wanted);
+        }
+        for column in columns {
+            if is_nullable(self.schema, *column) {
+                self.skip(held)?;
+                self.exclude_nulls(held, *column)?;
+            }
+        }
+        Ok(TruthPair::of(Some(held), None))
+    }
+
+    /// Sets a register to 0 where a column is null.
+    fn exclude_nulls(&mut self, held: Register, column: ColumnIndex) -> Result<(), Unplanned> {
+        let values = self.compute(Content::Values(column))?;
+        self.set_from(values, held, Instr::And(held, held, values))?;
+        Ok(())
     }
 }
 

@@ -7,15 +7,10 @@ use Rattle.std.specs.declared.alloc.Global.{Global}
 use Rattle.std.specs.Option.{option_map}
 use Rattle.std.proofs.lemmas.Bool.{and_from, cond_both, not-false}
 use Rattle.std.proofs.lemmas.Int.{ints}
-use Rattle.std.proofs.lemmas.List.Folds.{list_all_at}
-use Rattle.std.specs.List.{list_all}
 use Rattle.bw_text.specs.Text.{same_text}
 use Rattle.bw_model.specs.declared.fault.Fault.{Fault}
 use Rattle.bw_model.specs.Fault.{◌>>=◌, at_line}
 use Rattle.bw_model.proofs.FaultLemmas.{bind_ok, not_refused}
-use Rattle.bw_model.specs.declared.schema.Schema.{Schema}
-use Rattle.bw_file.specs.declared.layout.Layout.{Layout}
-use Rattle.bw_file.specs.FileBytes.{file_bytes}
 use Rattle.bw_csv.specs.Rule.{allows, rule_of}
 use Rattle.bw_csv.specs.Rows.{value_of_field}
 use Rattle.bw_csv.proofs.RowLemmas.{value_admitted}
@@ -169,15 +164,3 @@ pub entry_read : {A : Type 0} (xs : List A) (i : ℕ) (x default : A) → i < le
 entry_read [] i x default lt e = absurd (omega (arith, lt))
 entry_read (y ∷ ys) zero x default lt e = sym e
 entry_read (y ∷ ys) (suc i) x default lt e = entry_read ys i x default (omega (arith, lt)) e
-
--- columns that admit all rows admit each
-pub admitted_row : (columns : List Column) (rows : List (List Value)) (i : ℕ) → list_all (admits_values columns) rows ≡ true → i < length rows → admits_values columns (get_or rows i []) ≡ true
-admitted_row columns rows i all lt = by (admits_values columns (get_or rows i [])) refl
-  where
-    by : (b : Bool) → admits_values columns (get_or rows i []) ≡ b → b ≡ true
-    by true e = refl
-    by false e = absurd (cc (sym (list_all_at (admits_values columns) rows i [] lt e) ∙ all))
-
--- table files of equal parts are equal
-pub files_alike : (a b : Layout) (x y : Schema) (rows : List (List Value)) → a ≡ b → x.name ≡ y.name → x.columns.items ≡ y.columns.items → file_bytes a x rows ≡ file_bytes b y rows
-files_alike a b x y rows layout name columns = rw (layout, name, columns) refl

@@ -63,13 +63,14 @@ fn replace_values(
     let schema = segment.schema();
     for (col, replacement) in replacements.iter().enumerate() {
         let value = segment.value(col, i);
-        row.values.push(replaced(schema, col, replacement, value))?;
+        row.values
+            .push(replace_value(schema, col, replacement, value))?;
     }
     Ok(())
 }
 
 /// Returns what a value of a column becomes.
-fn replaced(schema: &Schema, col: usize, replacement: &Replacement, value: Value) -> Value
+fn replace_value(schema: &Schema, col: usize, replacement: &Replacement, value: Value) -> Value
     requires { col < length schema.now.columns.items }
     ensures { result ≡ replaced_at schema.now.columns.items col
         (option_map (λ values. values.items) replacement.now) value }

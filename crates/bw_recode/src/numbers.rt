@@ -84,7 +84,7 @@ fn read_replacement(
         return Err(Fault::at_line(code::NULL_NOT_ALLOWED, number));
     }
     if is_same_text(line, b"KEEP") {
-        return kept(old, new, number);
+        return keep_values(old, new, number);
     }
     if !is_same_text(line, b"CODES") {
         return Err(Fault::at_line(code::RECORD_LENGTH, number));
@@ -92,8 +92,8 @@ fn read_replacement(
     Ok(Some(read_values(alloc, &FieldRule::of(new), code_count(old), lines)?))
 }
 
-/// Returns that a column's values stay, if the new column has all its numbers.
-fn kept(old: &Column, new: &Column, number: u64) -> Result<Replacement, Fault>
+/// Keeps a column's values, if the new column has all its numbers.
+fn keep_values(old: &Column, new: &Column, number: u64) -> Result<Replacement, Fault>
     ensures { result ≡ refused_if (not (is_narrower old.now new.now))
         (at_line OUT_OF_RANGE number) (Ok None) }
 {

@@ -5,7 +5,7 @@ ghost use Rattle.bw_io.specs.Source.{Arrival, ReadOutcome, SourceEffect};
 ghost use Rattle.bw_encode.specs.Encode.{EncodeOutcome};
 ghost use Rattle.bw_file.specs.FileBytes.{file_bytes};
 
-use bw_encode::{CodedTable, Dialect, TableMaker, encode_text};
+use bw_encode::{CodedTable, Dialect, Selection, TableMaker, encode_text};
 use bw_file::{Encoder, Layout};
 use bw_io::{Sink, Source};
 use bw_model::Fault;
@@ -31,8 +31,10 @@ impl TableMaker for FileMaker {
     }
 }
 
-/// Writes two texts of a CSV text whose fields may be any bytes: what the codes of its columns stand
-/// for, and then the table file of its numbers and codes, in a layout. Nothing is written before all
+/// Writes two texts of the selected rows and fields of a CSV text, which may be any bytes: what the
+/// codes of its columns stand for, and then the table file of its numbers and codes, in a layout.
+/// With a limit of rows, the first ends with the number of bytes before the first row that wasn't
+/// read. Nothing is written before all
 /// else has succeeded. Fields are found by hashes that depend on the hasher's keys. Each device's
 /// count of failures must be less than 2^64 - 1.
 ///
@@ -43,6 +45,7 @@ pub fn encode<C: Source, F: Sink, K: Sink>(
     alloc: Global,
     hasher: RandomState,
     dialect: Dialect,
+    selection: Selection<'_>,
     layout: Layout,
     csv_source: &mut C,
     fields_sink: &mut F,
@@ -53,8 +56,8 @@ pub fn encode<C: Source, F: Sink, K: Sink>(
     requires sink { (K.state sink.old).failures < 2 ^ 64 - 1 }
     ensures encoded { (csv : Arrival)
         × ReadOutcome longest_csv (C.state csv_source.old) (C.state csv_source.new) csv
-        × EncodeOutcome dialect (file_bytes layout) csv (F.state fields_sink.old)
-        (F.state fields_sink.new) (K.state sink.old) (K.state sink.new) result }
+        × EncodeOutcome dialect selection.entry (file_bytes layout) csv
+        (F.state fields_sink.old) (F.state fields_sink.new) (K.state sink.old) (K.state sink.new) result }
     ensures csv { SourceEffect (longest_csv + 1) (C.state csv_source.old)
         (C.state csv_source.new) result }
 {
@@ -62,6 +65,7 @@ pub fn encode<C: Source, F: Sink, K: Sink>(
         alloc,
         hasher,
         dialect,
+        selection,
         &FileMaker { layout },
         csv_source,
         fields_sink,

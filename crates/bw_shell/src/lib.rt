@@ -27,7 +27,7 @@ mod plan_call;
 
 pub use bw_cert::{Accepted, MAX_PROGRAM_FILE_LEN, ProgramFile, split_file};
 pub use bw_csv_calls::{direct, infer, info, load};
-pub use bw_encode::Dialect;
+pub use bw_encode::{Dialect, Selection};
 pub use bw_io::{Input, read_limited};
 pub use bw_memory::MemoryTable;
 pub use bw_query::{

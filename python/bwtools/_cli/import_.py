@@ -16,8 +16,8 @@ are words. An empty field is null; in a column of numbers, dates, times or
 booleans so are NULL, null, NA, N/A and -. Nulls come back as empty fields.
 
 RAW.csv may be compressed by gzip, bzip2, xz or zip. A file past the limits of
-a table (16,777,216 rows, or 1 GiB of numbers) becomes a folder of shards, as
-with --shards; bw-ask takes a folder as it takes a file.
+a table (16,777,216 rows, or 1 GiB) becomes a folder of shards, as with
+--shards; bw-ask takes a folder as it takes a file.
 
 TABLE.bw.columns says what the numbers mean, and to which table file it
 belongs. Both are replaced together: whenever an import is stopped, the old

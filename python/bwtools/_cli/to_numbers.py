@@ -15,7 +15,8 @@ import argparse
 import pathlib
 import sys
 
-from .. import command, inputs, options, placing, store, writing
+from .. import command, inputs, options, placing, store
+from ..loader.table import Table, write_numbers
 from .options import new_parser
 
 NAME = "bw-to-numbers"
@@ -28,8 +29,8 @@ def work(given: argparse.Namespace) -> None:
     for path in (out, columns):
         placing.refuse_target(path, [inputs.path_of(given.csv)])
     with placing.new_folder(out) as folder:
-        table = writing.NumberTable(given.csv, given, folder)
-        table.write(folder / "numbers.csv")
+        table = Table(given.csv, given, folder)
+        write_numbers(table, folder, folder / "numbers.csv")
         store.write(folder / "columns", table.columns)
         placing.put(folder, [(folder / "columns", columns), (folder / "numbers.csv", out)])
     # last, since its reader may stop early, as head does

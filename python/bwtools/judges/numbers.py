@@ -7,7 +7,6 @@ import math
 from dataclasses import dataclass
 from typing import ClassVar, Optional, Sequence, Union
 
-from ..keeping import Numbered
 from ..kind import GREATEST, LEAST
 from ..kind import Kind
 from ..kinds.decimals import Decimals
@@ -16,10 +15,10 @@ from ..kinds.styled import Numbers, Styled
 from ..kinds.whole import Whole
 from ..naming import option
 from ..numerals import SIMPLE, STARTS, WHOLE, ZEROS, is_number, like_number
-from ..plain import texts_of
 from ..rounding import SHORT, Rounding, change_in_double
 from ..spans import MOST_DIGITS, Spans
 from ..style import Style
+from ..wishes import BLANKS
 from ..telling import shown
 from .fields import Fields
 from .judge import matching, starting
@@ -201,12 +200,11 @@ def rounded(column: Fields, style: Style, digits: int) -> Verdict:
 
 def no_double(column: Fields, style: Style) -> Optional[str]:
     """Returns a whole number that isn't a double, such as an id, if there is one."""
-    kept = (column.store.fields(place) for place in (column.places if column.plain.forms else ()))
-    stored = (texts_of(each) for each in kept if isinstance(each, Numbered) and
-              each.form == "number" and not each.digits)
-    for texts in itertools.chain(column.bare(), stored):
-        for text in texts:
-            plain = style.bare(text) if len(text) > SHORT and style.mark not in text else None
+    whole = (texts for part, texts in column.each()
+             if part.kept and part.kept.form == "number" and not part.kept.digits)
+    for texts in itertools.chain(column.bare(), whole):
+        for text in (each.strip(BLANKS) for each in texts if len(each) > SHORT):
+            plain = style.bare(text) if style.mark not in text else None
             if plain and WHOLE.fullmatch(plain) and change_in_double(plain):
                 return text
     return None

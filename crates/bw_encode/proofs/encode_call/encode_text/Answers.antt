@@ -12,7 +12,7 @@ returns-in_err-csv-clause-encoded g c =
       a.0,
       a.1,
       rw (err_passed_on _ c.from_residual.ensures.1)
-          (nothing c.in_err-csv.ensures.fault (λ aside. refused_read c.args.dialect a.0 c.in_err-csv.field-0.0 a.2) (untouched _) (untouched _)),
+          (nothing c.in_err-csv.ensures.fault (λ aside. refused_read c.args.dialect c.args.selection a.0 c.in_err-csv.field-0.0 a.2) (untouched _) (untouched _)),
     )
 
 pub returns-in_err-texts-clause-encoded : goal.returns-in_err-texts-clause-encoded
@@ -23,7 +23,7 @@ returns-in_err-texts-clause-encoded g c =
       a.1,
       rw (err_passed_on _ c.from_residual-in_err-texts.ensures.1)
           (nothing (second_false (is_read_fault c.in_err-texts.field-0.0) _ c.in_err-texts.ensures.device)
-          (λ aside. subst (λ came. IsRefusedBy c.args.dialect came c.in_err-texts.field-0.0) (sym a.2) (refused aside)) (untouched _) (untouched _)),
+          (λ aside. subst (λ came. IsRefusedBy c.args.dialect c.args.selection came c.in_err-texts.field-0.0) (sym a.2) (refused aside)) (untouched _) (untouched _)),
     )
 
 pub returns-in_err-write_whole-clause-encoded : goal.returns-in_err-write_whole-clause-encoded

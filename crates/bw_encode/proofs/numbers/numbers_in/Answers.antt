@@ -12,17 +12,17 @@ pub returns-in_default-clause-texts : goal.returns-in_default-clause-texts
 returns-in_default-clause-texts c =
     let fields : List (List ℕ) = c.args.column.now in
     let lt : c.loop-row.row < length fields = omega arith in
-    let none : IsValueOf c.field.result.now None = subst (IsValueOf c.field.result.now) c.in_default.is c.value_of.ensures.value in
-    text_among fields c.loop-row.row lt (subst (λ f. IsValueOf f None) c.field.ensures none)
+    let none : IsValueOf c.get.result.now None = subst (IsValueOf c.get.result.now) c.in_default.is c.value_of.ensures.value in
+    text_among fields c.loop-row.row lt (subst (λ f. IsValueOf f None) c.get.ensures none)
 
 pub loop-row-preserved : goal.loop-row-preserved
 loop-row-preserved c =
     let fields : List (List ℕ) = c.args.column.now in
     let row : ℕ = c.loop-row.row in
     let lt : c.loop-row.row < length fields = omega arith in
-    let spells : IsValueOf c.field.result.now (Some c.in-Some.value) = subst (IsValueOf c.field.result.now) c.in-Some.is c.value_of.ensures.value in
-    let here : Spells (get_or fields c.loop-row.row []) c.in-Some.value = subst (λ f. Spells f c.in-Some.value) c.field.ensures spells in
-    let read : c.in-Some.value ≡ bound_of (get_or fields c.loop-row.row []) = rw (c.in-Some.is, c.field.ensures) at c.value_of.ensures.read in
+    let spells : IsValueOf c.get.result.now (Some c.in-Some.value) = subst (IsValueOf c.get.result.now) c.in-Some.is c.value_of.ensures.value in
+    let here : Spells (get_or fields c.loop-row.row []) c.in-Some.value = subst (λ f. Spells f c.in-Some.value) c.get.ensures spells in
+    let read : c.in-Some.value ≡ bound_of (get_or fields c.loop-row.row []) = rw (c.in-Some.is, c.get.ensures) at c.value_of.ensures.read in
     record {
       read = read_more fields c.loop-row.row c.in-Some.value lt here c.loop-row.invariant.read;
       seen = subst (λ values. IsSeenOf values c.and-seen.result)

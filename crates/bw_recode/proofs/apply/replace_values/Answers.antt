@@ -22,10 +22,10 @@ loop-col-preserved c =
     let lt : col < length columns = omega (arith, c.loop-col-test.true, c.requires.columns) in
     let size : length made ≡ length columns = length-replaced_row columns (replacements_in stored) row same wide in
     let read = entry_read stored col c.index-replacements-col.result None c.loop-col-test.true c.index-replacements-col.is in
-    let entry : get_or made col None ≡ c.replaced.result =
+    let entry : get_or made col None ≡ c.replace_value.result =
     value_replaced columns (replacements_in stored) row col same wide lt
-    ∙ rw (stored_at stored col, read, ← c.value-value.ensures, ← c.schema-schema.ensures.columns) (sym c.replaced.ensures) in
-    c.in_ok-push.ensures.items ∙ ap (λ (values : List Value). values ++ c.replaced.result ∷ []) c.loop-col.invariant
+    ∙ rw (stored_at stored col, read, ← c.value-value.ensures, ← c.schema-schema.ensures.columns) (sym c.replace_value.ensures) in
+    c.in_ok-push.ensures.items ∙ ap (λ (values : List Value). values ++ c.replace_value.result ∷ []) c.loop-col.invariant
     ∙ ap (λ (value : Value). take col made ++ value ∷ []) (sym entry) ∙ sym (take_more made col None (omega (arith, lt, size)))
 
 pub returns-clause-row : goal.returns-clause-row

@@ -22,7 +22,7 @@ pub returns-then-is_same_text-clause-read : goal.returns-then-is_same_text-claus
 returns-then-is_same_text-clause-read c =
     let is = replacement-kept c.args.old.now c.args.new.now c.args.lines.now.number (cut_lines c.args.lines.now.text) (cut_lines c.cut_line.new.self.text) c.in-Some.line.now
     c.in-Some.ensures.line (sym c.keeps_nulls.ensures ∙ c.if-not-keeps_nulls.false) (sym c.is_same_text.ensures ∙ c.if-is_same_text.true) in
-    rw (c.kept.ensures, c.number-number.ensures, is) (kept_matches (not (is_narrower c.args.old.now c.args.new.now)) (at_line 205 c.args.lines.now.number))
+    rw (c.keep_values.ensures, c.number-number.ensures, is) (kept_matches (not (is_narrower c.args.old.now c.args.new.now)) (at_line 205 c.args.lines.now.number))
 
 pub returns-then-not-is_same_text-clause-read : goal.returns-then-not-is_same_text-clause-read
 returns-then-not-is_same_text-clause-read c = λ kept.

@@ -11,9 +11,8 @@ use Rattle.bw_file.specs.Encoder.{encoder_schema}
 use Rattle.bw_file.specs.TableReader.{schema_in}
 use Rattle.bw_file.proofs.MemoryAnswers.{together_more}
 use Rattle.bw_file.proofs.NextLemmas.{segment_of, end_of, refusal_of}
-use Rattle.bw_file.proofs.TableLemmas.{fault_seen, whole_seen}
+use Rattle.bw_file.proofs.TableLemmas.{bytes_alike, fault_seen, whole_seen}
 use Rattle.bw_recode.specs.Recode.{replaced_row, replacements_in}
-use Rattle.bw_recode.proofs.ReplacingLemmas.{files_alike}
 use Rattle.bw_recode.proofs.recode_call.encode_rest.Goals as goal
 
 pub returns-in_err-segment-clause-refused : goal.returns-in_err-segment-clause-refused
@@ -94,5 +93,5 @@ returns-clause-file c =
       rows = together groups;
       read = rw (c.loop-encoder.invariant.same_layout, c.loop-encoder.invariant.same_schema) at (whole_seen table _ _ _ (ended.whole _ groups (c.loop-encoder.invariant.read table began)));
       is = text (map (replaced_row columns (replacements_in c.args.replacements.now)) (together groups)) holds
-          ∙ files_alike _ _ (encoder_schema c.loop-encoder.encoder) c.args.schema.now _ layout c.loop-encoder.invariant.name c.loop-encoder.invariant.columns;
+          ∙ bytes_alike _ _ (encoder_schema c.loop-encoder.encoder) c.args.schema.now _ layout c.loop-encoder.invariant.name c.loop-encoder.invariant.columns;
     }) c.finish.ensures.bytes

@@ -1,0 +1,1 @@
+"""Makes tables of CSV files: bw codes the rows, and Python decides what the distinct fields are."""

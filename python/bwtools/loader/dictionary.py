@@ -1,0 +1,199 @@
+"""The distinct fields of a column, in order, as `bw encode` writes them to FIELDS."""
+from __future__ import annotations
+
+import bisect
+import io
+import itertools
+import operator
+import os
+from array import array
+from typing import Collection, Iterator, List, NamedTuple, Optional, Sequence, Tuple
+
+# a block has so many fields, or fewer long ones
+FIELDS_A_BLOCK, BYTES_A_BLOCK = 1 << 16, 1 << 24
+MAGIC = b"BWFIELDS"
+
+
+class ByteFile:
+    """The bytes of a file, which is closed once nothing needs it. Processes that are forked from
+    this one can read it too."""
+
+    def __init__(self, path: str | os.PathLike[str], flags: int = os.O_RDONLY) -> None:
+        self.number = os.open(path, flags | os.O_CLOEXEC, 0o600)
+
+    def __del__(self) -> None:
+        if "number" in vars(self):
+            os.close(self.number)
+
+    def fileno(self) -> int:
+        return self.number
+
+    def at(self, place: int, size: int) -> bytes:
+        """Returns some bytes from a place on."""
+        return os.pread(self.number, size, place)
+
+    def append(self, data: bytes) -> None:
+        """Writes bytes after those that were written."""
+        rest = memoryview(data)
+        while rest:
+            rest = rest[os.write(self.number, rest):]
+
+
+class Block(NamedTuple):
+    """Some fields of a dictionary: the place of the first one, and their bytes."""
+    first: int
+    fields: List[bytes]
+
+
+class Span(NamedTuple):
+    """Where the fields of a block are: their places, and those of their bytes."""
+    first: int
+    end: int
+    at: int
+    size: int
+
+
+class Dictionary:
+    """The distinct fields of a column in the order of their bytes, which is that of code points:
+    how many rows have each, their lengths, and a file that has their bytes from `at` on. Each has a
+    sign before it that isn't its own if `is_marked`."""
+
+    def __init__(self, file: ByteFile, at: int, counts: array[int], lengths: array[int],
+                 is_marked: bool = False) -> None:
+        self.file, self.counts, self.lengths = file, counts, lengths
+        self.is_marked, self.spans = is_marked, list[Span]()
+        first = 0
+        while first < len(lengths):
+            end = min(first + FIELDS_A_BLOCK, len(lengths))
+            while (size := sum(lengths[first:end])) > BYTES_A_BLOCK and end > first + 1:
+                end = (first + end) // 2
+            self.spans.append(Span(first, end, at, size))
+            first, at = end, at + size
+
+    def __len__(self) -> int:
+        return len(self.counts)
+
+    def block(self, span: Span) -> Block:
+        """Reads a block."""
+        data = io.BytesIO(self.file.at(span.at, span.size))
+        fields = list(map(data.read, self.lengths[span.first:span.end]))
+        return Block(span.first, [field[1:] for field in fields] if self.is_marked else fields)
+
+    def between(self, first: int, end: int) -> List[bytes]:
+        """Returns the fields from one place to another, of one block."""
+        span = next(span for span in self.spans if first < span.end)
+        at = span.at + sum(self.lengths[span.first:first])
+        return self.block(Span(first, end, at, sum(self.lengths[first:end]))).fields
+
+    def blocks(self) -> Iterator[Block]:
+        """Yields all fields in order."""
+        return map(self.block, self.spans)
+
+    def field(self, place: int) -> bytes:
+        """Returns the field at a place."""
+        return self.between(place, place + 1)[0]
+
+    def find(self, field: bytes) -> Optional[int]:
+        """Returns the place of a field, or None if there is none."""
+        low, high = 0, len(self)
+        while low < high:
+            middle = (low + high) // 2
+            low, high = (middle + 1, high) if self.field(middle) < field else (low, middle)
+        return low if low < len(self) and self.field(low) == field else None
+
+    def count_breaks(self) -> int:
+        """Returns how many ends of lines there are in the fields of all rows."""
+        found = 0
+        for first, fields in self.blocks():
+            joined = b"\0".join(fields)
+            counts = self.counts[first:first + len(fields)]
+            if b"\r" in joined:
+                found += sum(map(operator.mul, map(breaks_in, fields), counts))
+            elif b"\n" in joined:
+                breaks = map(operator.methodcaller("count", b"\n"), fields)
+                found += sum(map(operator.mul, breaks, counts))
+        return found
+
+
+def breaks_in(data: bytes) -> int:
+    """Returns how many ends of lines there are: line feeds, carriage returns, or both."""
+    found = data.count(b"\n")
+    return found if b"\r" not in data else found + data.count(b"\r") - data.count(b"\r\n")
+
+
+def texts_of(fields: Sequence[bytes]) -> List[str]:
+    """Returns fields as texts. Raises UnicodeDecodeError if one isn't UTF-8."""
+    return texts_in(b"\0".join(fields).decode(), fields)
+
+
+def texts_in(joined: str, fields: Sequence[bytes]) -> List[str]:
+    """Returns the texts of fields that are also given joined by NULs, which is faster than to
+    decode each, unless one has a NUL."""
+    found = joined.split("\0")
+    return found if len(found) == len(fields) else list(map(bytes.decode, fields))
+
+
+def read_fields(file: ByteFile, marked: Collection[int] = ()) -> List[Optional[Dictionary]]:
+    """Returns the dictionaries of an open file FIELDS, and None for each column of numbers. The
+    fields of some columns are marked."""
+    at, found = len(MAGIC) + 8, list[Optional[Dictionary]]()
+    for place in range(numbers_at(file, len(MAGIC), 1)[0]):
+        is_coded, at = file.at(at, 1) == b"\1", at + 1
+        if not is_coded:
+            found.append(None)
+            continue
+        count, at = numbers_at(file, at, 1)[0], at + 8
+        counts, lengths = (numbers_at(file, at + 8 * count * part, count) for part in (0, 1))
+        at += 16 * count
+        found.append(Dictionary(file, at, counts, lengths, place in marked))
+        at += sum(lengths)
+    return found
+
+
+def numbers_at(file: ByteFile, at: int, count: int) -> array[int]:
+    found = array("Q")
+    found.frombytes(file.at(at, 8 * count))
+    return found
+
+
+class Reader:
+    """Reads a dictionary that is merged with others: some fields at a time, and the places that
+    they get among those of all."""
+
+    def __init__(self, dictionary: Dictionary) -> None:
+        self.blocks, self.fields = dictionary.blocks(), list[bytes]()
+        self.places = array("I")
+
+    def fill(self) -> bool:
+        """Reads the next fields, if none are left. Returns whether there are any."""
+        if not self.fields:
+            self.fields = next(self.blocks, Block(0, [])).fields
+        return bool(self.fields)
+
+    def take(self, last: bytes) -> List[bytes]:
+        """Removes and returns the fields up to one."""
+        end = bisect.bisect_right(self.fields, last)
+        taken, self.fields = self.fields[:end], self.fields[end:]
+        return taken
+
+
+def merge(parts: Sequence[Dictionary],
+          file: ByteFile) -> Tuple[Dictionary, List[array[int]]]:
+    """Merges dictionaries into one, whose bytes are written to a file. Returns it, and for each
+    part the places that its fields have there."""
+    readers, lengths = [Reader(part) for part in parts], array("Q")
+    while live := [reader for reader in readers if reader.fill()]:
+        # each reader has all its fields up to this one
+        last = min(reader.fields[-1] for reader in live)
+        taken = [reader.take(last) for reader in live]
+        fields = list(dict.fromkeys(sorted(itertools.chain.from_iterable(taken))))
+        places = dict(zip(fields, range(len(lengths), len(lengths) + len(fields))))
+        for reader, own in zip(live, taken):
+            reader.places.extend(map(places.__getitem__, own))
+        file.append(b"".join(fields))
+        lengths.extend(map(len, fields))
+    counts = array("Q", bytes(8 * len(lengths)))
+    for part, reader in zip(parts, readers):
+        for place, count in zip(reader.places, part.counts):
+            counts[place] += count
+    return Dictionary(file, 0, counts, lengths), [reader.places for reader in readers]
