@@ -268,6 +268,11 @@ class Named(unittest.TestCase):
             self.assertIn(f"'?' in line {line} isn't a number, as 4 of 5 fields are",
                           Import(more + data, *words).refusal)
 
+    def test_a_mark_after_skipped_lines_is_a_character(self):
+        found = Import("title\n\ufeff\nx\n", "--skip", "1")
+        self.assertEqual(found.columns[0].heading, "\ufeff")
+        self.assertEqual(found.rows, ["x"])
+
     def test_encodings(self):
         for text, name in (("日本語", "shift_jis"), ("カタカナとひらがな", "shift_jis"),
                            ("中华人民共和国", "gb18030"), ("한국어", "euc_kr"), ("Gäu", "cp1252")):

@@ -175,8 +175,11 @@ def feed_of(source: Source, marked: Collection[int] = ()) -> Feed:
     heading = b"" if source.has_heading else heading_of(width, signs.separator, signs.quote)
     if source.text.encoding not in ("utf-8-sig", "utf-8") or source.text.errors != "strict":
         return DecodedFeed(source, heading)
-    file = source.text.file
-    return FileFeed(file, signs, start_of(source), size_of(file), heading)
+    file, start = source.text.file, start_of(source)
+    if os.pread(file.fileno(), len(MARK), start) == MARK:
+        # bw would leave it out, as if the file began there
+        return RecordFeed(source, marked, heading_of(width))
+    return FileFeed(file, signs, start, size_of(file), heading)
 
 
 class Index:
