@@ -112,8 +112,10 @@ class Dictionary:
             data = self.file.at(span.at, span.size)
             if b"\n" in data or b"\r" in data:
                 counts = self.counts[span.first:span.end]
-                breaks = breaks_in if b"\r" in data else operator.methodcaller("count", b"\n")
-                found += sum(map(operator.mul, map(breaks, self.block(span).fields), counts))
+                fields = self.block(span).fields
+                breaks = map(breaks_in, fields) if b"\r" in data else \
+                    map(operator.methodcaller("count", b"\n"), fields)
+                found += sum(map(operator.mul, breaks, counts))
         return found
 
 
