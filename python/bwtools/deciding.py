@@ -70,11 +70,10 @@ def table_question(source: Source, column: Fields) -> Optional[Question]:
         return None
     heading = source.headings[0] if source.has_heading else None
     for sign in separators.MORE:
-        counts = {separators.count(text, sign) for texts in column.bare() for text in texts}
+        count = count_in_all(column, sign)
         if heading and not column.rows and all(map(is_number, heading.split())):
             # a row, and no heading
-            counts = {separators.count(heading, sign)}
-        count = counts.pop() if len(counts) == 1 else 0
+            count = separators.count(heading, sign)
         # one in all rows but not in the heading may be a name, a time or an address
         if count > 1 or count and (heading is None or separators.count(heading, sign) == count):
             what = f"{count} {sign!r}, which may separate fields"
@@ -83,6 +82,18 @@ def table_question(source: Source, column: Fields) -> Optional[Question]:
                             (separators.separator_option(sign),
                              option("--text", column.wishes.heading)))
     return None
+
+
+def count_in_all(column: Fields, sign: str) -> int:
+    """Returns how often a separator is in each text of a column, or 0 if not equally often."""
+    found: Optional[int] = None
+    for texts in column.bare():
+        is_there = separators.count("".join(texts), sign) > 0
+        for count in (separators.count(text, sign) for text in texts) if is_there else (0,):
+            found = count if found is None else found
+            if not count or count != found:
+                return 0
+    return found or 0
 
 
 def exact(column: Fields, decision: Decision) -> Decision:

@@ -29,6 +29,8 @@ FIELDS = ["1", "-5", "0", "1.5", "2.50", "-0.0", "", "NA", "9223372036854775807"
 WORDS = [(), (), (), ("--keep-spelling",), ("--number", "a"), ("--drop-blanks",),
          ("--keep-blanks",), ("--text", "a"), ("--digits", "a=1"), ("--null", "x"),
          ("--null=-5",), ("--comment", "#"), ("--keep-spelling", "--keep-blanks")]
+# all fields stay texts as they are
+KEPT = ("--text", "a", "--text", "b", "--text", "c", "--keep-blanks", "--keep-spelling")
 # all fields are examined one by one, or as many at a time as may be
 ALONE = {"bwtools.judges.fields.MANY": 1 << 40}
 TOGETHER = {"bwtools.judges.fields.MANY": 0}
@@ -124,6 +126,36 @@ class Together(unittest.TestCase):
                 wanted = found(data, words)
                 with patch:
                     self.assertEqual(found(data, words), wanted, (data, words))
+
+    def test_what_is_read_here(self):
+        """Short rows, escaped signs, and marks of several bytes."""
+        draw = random.Random(17)
+        for _ in range(20):
+            data, rows = drawn_text(draw, ";")
+            rows = [[*row, draw.choice("123")] for row in rows]
+
+            def text(separator, short=False, escape=None, quote='"', comment=""):
+                out = io.StringIO(newline="")
+                writer = csv.writer(out, delimiter=separator, lineterminator="\r\n",
+                                    escapechar=escape, doublequote=not escape, quotechar=quote)
+                for row in [["a", "b", "c"], *rows]:
+                    out.write(comment)
+                    writer.writerow(row[:2] if short and row[2] == "1" else row)
+                return out.getvalue()
+
+            for words, other in ((("--fill",), text(";", True)),
+                                 (("--escape", "\\"), text(";", escape="\\")),
+                                 (("--quote", "é"), text(";", quote="é")),
+                                 (("--separator", "§"), text("§")),
+                                 (("--comment", "//"), text(";", comment="// no\r\n"))):
+                wanted = [[row[0], row[1], "" if words == ("--fill",) and row[2] == "1" else row[2]]
+                          for row in rows]
+                found = Import(other, "--heading", *KEPT, *words)
+                self.assertEqual(found.refusal, "")
+                fields = [[found.columns[place].kind.text(number)
+                           for number in found.numbers[place]] for place in range(3)]
+                self.assertEqual(fields, [[row[place] for row in wanted if row[place]]
+                                          for place in range(3)], (other, words))
 
     def test_other_encodings(self):
         draw = random.Random(13)

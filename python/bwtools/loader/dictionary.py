@@ -61,7 +61,7 @@ class Dictionary:
     def __init__(self, file: ByteFile, at: int, counts: array[int], lengths: array[int],
                  is_marked: bool = False) -> None:
         self.file, self.counts, self.lengths = file, counts, lengths
-        self.is_marked, self.spans = is_marked, list[Span]()
+        self.is_marked, self.spans, self.starts = is_marked, list[Span](), dict[int, int]()
         first = 0
         while first < len(lengths):
             end = min(first + FIELDS_A_BLOCK, len(lengths))
@@ -81,9 +81,13 @@ class Dictionary:
 
     def between(self, first: int, end: int) -> List[bytes]:
         """Returns the fields from one place to another, of one block."""
-        span = next(span for span in self.spans if first < span.end)
-        at = span.at + sum(self.lengths[span.first:first])
-        return self.block(Span(first, end, at, sum(self.lengths[first:end]))).fields
+        at, size = self.starts.get(first), sum(self.lengths[first:end])
+        if at is None:
+            span = next(span for span in self.spans if first < span.end)
+            at = span.at + sum(self.lengths[span.first:first])
+        # the next ones are often read next
+        self.starts[end] = at + size
+        return self.block(Span(first, end, at, size)).fields
 
     def blocks(self) -> Iterator[Block]:
         """Yields all fields in order."""
@@ -104,13 +108,13 @@ class Dictionary:
     def count_breaks(self) -> int:
         """Returns how many ends of lines there are in the fields of all rows."""
         found = 0
-        for first, fields in self.blocks():
-            joined = b"\0".join(fields)
-            counts = self.counts[first:first + len(fields)]
-            if b"\r" in joined:
-                found += sum(map(operator.mul, map(breaks_in, fields), counts))
-            elif b"\n" in joined:
-                breaks = map(operator.methodcaller("count", b"\n"), fields)
+        for span in self.spans:
+            data = self.file.at(span.at, span.size)
+            if b"\n" in data or b"\r" in data:
+                counts = self.counts[span.first:span.end]
+                fields = self.block(span).fields
+                breaks = map(breaks_in, fields) if b"\r" in data else \
+                    map(operator.methodcaller("count", b"\n"), fields)
                 found += sum(map(operator.mul, breaks, counts))
         return found
 
