@@ -3,6 +3,7 @@ report, or refused with the options that load it."""
 import contextlib
 import csv
 import io
+import pathlib
 import random
 import unittest
 import zipfile
@@ -11,7 +12,8 @@ import bwtools
 
 from bwtools.telling import Refused
 
-from tests.support import Import, Imported, source_of, table_of
+from tests import foreign
+from tests.support import Import, Imported, in_file, source_of, table_of
 
 # each file with the options, the kinds of its columns, its rows as they come back, and a part of
 # the report
@@ -325,6 +327,24 @@ class Named(unittest.TestCase):
         with self.assertRaises(Refused) as refused:
             table_of(data)
         self.assertIn(told, str(refused.exception))
+
+
+class Foreign(unittest.TestCase):
+    """The script for other projects' files types what refusals name."""
+
+    def test_options_are_tried(self):
+        for data, wanted in (
+                ("a,b\n1,2\n", ()), ("a,b\n1,2,\n", ("--trailing-separators",)),
+                ('a\n"1,234"\n', ("--thousands", ",")),
+                ('a,b\n1,"x\\"y"\n', ("--escape", "\\")),
+                ("a b,c\n1,x\n?,y\n3,soon\n4,z\n", ("--null", "a b=?")),
+                ("a,b\n1,2024-01-01\n?,2024-01-02\n3,soon\n4,2024-01-04\n",
+                 ("--null", "a=?", "--null", "b=soon")),
+                ("x y,b\nx  ,1\nx,2\n", ("--drop-blanks=x y",))):
+            with self.subTest(data):
+                tried = in_file(data.encode(), lambda path: foreign.attempts(pathlib.Path(path)))
+                self.assertEqual((tried[-1].refusal, tried[-1].lost, tried[-1].words),
+                                 ("", [], wanted))
 
 
 class Separators(unittest.TestCase):
