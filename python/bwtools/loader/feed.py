@@ -170,7 +170,7 @@ def heading_of(width: int, separator: str = ",", quote: str = '"') -> bytes:
 def feed_of(source: Source, marked: Collection[int] = ()) -> Feed:
     """Returns the bytes of a file, of which some columns must have codes."""
     signs, width = source.text.signs, len(source.headings)
-    if marked or source.fills or not is_plain(signs):
+    if marked or not is_plain(signs):
         return RecordFeed(source, marked, heading_of(width))
     heading = b"" if source.has_heading else heading_of(width, signs.separator, signs.quote)
     if source.text.encoding not in ("utf-8-sig", "utf-8") or source.text.errors != "strict":
