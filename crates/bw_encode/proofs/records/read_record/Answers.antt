@@ -26,7 +26,7 @@ bytes-preserved c =
     c.step_of-step.ensures.next c.step_of-step.ensures.action c.goes_on_bare.ensures c.either-is_loose.ensures c.in_ok-take_byte.ensures.fields c.in_ok-take_byte.ensures.field (sym c.is_end.ensures ∙ c.if-is_end.false) in
     record {
       on = run-on c.args.dialect (state_of c.args.place) c.args.text.now (state_of c.step_of-step.result.next) c.take_byte.new.fields c.take_byte.new.field.items c.extend_from_slice.new.self.items (c.bytes.i + 1) c.run_length-run.result c.either-is_loose.result
-      on (rw c.skip_bytes-rest.ensures at c.run_length-run.ensures.is) (rw c.skip_bytes-rest.ensures at c.in_ok-extend_from_slice.ensures.items);
+          on (rw c.skip_bytes-rest.ensures at c.run_length-run.ensures.is) (rw c.skip_bytes-rest.ensures at c.in_ok-extend_from_slice.ensures.items);
       within = omega (arith, c.run_length-run.ensures.within, ap length c.skip_bytes-rest.ensures, length-drop (c.bytes.i + 1) c.args.text.now, lt);
     }
 
