@@ -24,11 +24,11 @@ from dataclasses import dataclass, field
 from typing import Iterator, Sequence
 
 import tests  # noqa: F401  finds bwtools
+from bwtools.loader.table import Table
 from bwtools.options import add_options, parsed
 from bwtools.telling import Refused, shown
 from bwtools.wishes import BLANKS
-from bwtools.writing import NumberTable
-from tests.support import ROOT
+from tests.support import ROOT, columns_in
 
 SUITES = ("bookworm", "trixie", "sid")
 SOURCES = ("pandas miller r-cran-data.table libcommons-csv-java libtext-csv-xs-perl "
@@ -113,10 +113,9 @@ def import_one(path: pathlib.Path, words: tuple[str, ...]) -> Outcome:
     parser = argparse.ArgumentParser(exit_on_error=False)
     add_options(parser)
     try:
-        table = NumberTable(path, parsed(parser, words))
-        columns = [[number for part in parts for number in part]
-                   for parts in zip(*table.chunks())] or [[] for _ in table.columns]
-        table.finish()
+        with tempfile.TemporaryDirectory() as folder:
+            table = Table(path, parsed(parser, words), pathlib.Path(folder))
+            columns = columns_in(table)
     except (Refused, argparse.ArgumentError) as refused:
         return Outcome(words, str(refused))
     with contextlib.redirect_stdout(io.StringIO()) as out:

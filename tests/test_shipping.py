@@ -42,7 +42,8 @@ class Trees(support.TestCase):
         self.folder = self.new_folder()
         for name in ("scripts", "dist", "tests", "tools", "crates/bw/src"):
             (self.folder / name).mkdir(parents=True)
-        for path in [ROOT / "bw", ROOT / "check", *filter(os.path.isfile, (ROOT / "scripts").iterdir())]:
+        scripts = filter(os.path.isfile, (ROOT / "scripts").iterdir())
+        for path in [ROOT / "bw", ROOT / "check", *scripts]:
             shutil.copy2(path, self.folder / path.relative_to(ROOT))
         (self.folder / "crates.txt").write_text("bw:\n")
         (self.folder / "crates" / "bw" / "src" / "main.rt").write_text("fn main() {}\n")
@@ -117,7 +118,6 @@ class Shipped(Trees):
         self.check(1, "program: there is no built program", "nothing", kit=SAME)
         self.write_changelog("1.2.4")
         self.check(1, "version: --version says", self.shipped, kit=SAME)
-
 
     def test_which_program_runs(self):
         """Nothing is proved to find it."""

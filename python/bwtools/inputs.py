@@ -3,6 +3,7 @@ it holds."""
 from __future__ import annotations
 
 import contextlib
+import errno
 import importlib
 import io
 import os
@@ -113,8 +114,9 @@ def copied(file: IO[bytes]) -> BinaryIO:
 def member(file: BinaryIO, path: str) -> BinaryIO:
     """Returns a temporary file with the only file that a zip archive holds."""
     import shlex
+    import struct
     import zipfile
-    damaged = (zipfile.BadZipFile, zlib.error, EOFError, NotImplementedError, RuntimeError)
+    damaged = (zipfile.BadZipFile, zlib.error, struct.error, EOFError, RuntimeError, ValueError)
     try:
         with zipfile.ZipFile(file) as archive:
             names = [name for name in archive.namelist() if not name.endswith("/")]
@@ -127,7 +129,10 @@ def member(file: BinaryIO, path: str) -> BinaryIO:
                               f"one{one}")
             with archive.open(names[0]) as text:
                 return copied(text)
-    except damaged as error:
+    except (*damaged, OSError) as error:
+        # a damaged archive may have negative places
+        if getattr(error, "errno", None) not in (None, errno.EINVAL):
+            raise
         raise Refused(f"{path} is a zip archive, or a spreadsheet, and can't be unpacked: "
                       f"{error}") from None
 

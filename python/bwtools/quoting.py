@@ -30,8 +30,8 @@ class Unreadable(csv.Error):
 
 @dataclass(frozen=True)
 class Trial:
-    """An option, what it reads at the line in question, and whether all the records are as long as
-    the first."""
+    """An option, what it reads at the line in question, and whether the first record is as long as
+    all others, or lacks one field, as the heading of R does."""
     option: str
     record: list[str]
     is_even: bool
@@ -47,6 +47,11 @@ def advice(read: Reader, signs: Signs, error: Unreadable) -> str:
         candidates[1:] = candidates[:0:-1]
     trials = [trial for option, changed, is_strict in candidates
               if (trial := tried(option, read(changed, is_strict), error.line))]
+    if trials and len(trials[-1].record) == 1:
+        # no separator is there, but blanks may be
+        blanks = tried("--separator space", read(signs._replace(separator=" "), True), error.line)
+        if blanks and blanks.is_even and len(blanks.record) > 1:
+            return f": use {blanks.option}"
     found = [each for each in trials if each.is_even] or trials
     place = differing([each.record for each in found])
     use = [each.option + (f", which reads {shown(each.record[place])}"
@@ -56,16 +61,18 @@ def advice(read: Reader, signs: Signs, error: Unreadable) -> str:
 
 def tried(option: str, records: Iterator[Record], line: int) -> Optional[Trial]:
     """Returns what an option reads, or None if that isn't CSV either."""
-    widths, at = set[int](), list[str]()
+    widths, at, heading = set[int](), list[str](), 0
     try:
         for number, record in itertools.islice(records, LOOKED):
-            if record:
+            if record and not heading:
+                heading = len(record)
+            elif record:
                 widths.add(len(record))
             if number <= line:
                 at = record
     except csv.Error:
         return None
-    return Trial(option, at, len(widths) == 1)
+    return Trial(option, at, widths <= {heading} or widths == {heading + 1})
 
 
 def differing(records: list[list[str]]) -> int:

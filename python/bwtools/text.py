@@ -158,13 +158,20 @@ class Text:
         except UnicodeError:
             self.undecoded()
         except quoting.Unreadable as error:
-            if "field limit" in str(error):
-                raise Refused(f"{self.path}: line {error.line}, or one after it, has a field of "
-                              f"more than {MOST_CHARACTERS:,} characters, or one in quotes that "
-                              "doesn't end: use --quote none if fields have no quotation marks "
-                              "around them") from None
-            raise Refused(f"{self.path}: line {error.line}: {error}"
-                          f"{quoting.advice(self.records_by, self.signs, error)}") from None
+            self.refuse_unreadable(error)
+
+    def refuse_unreadable(self, error: quoting.Unreadable) -> NoReturn:
+        """Rejects the file for a record that isn't CSV."""
+        if "field limit" in str(error):
+            raise Refused(f"{self.path}: line {error.line}, or one after it, has a field of more "
+                          f"than {MOST_CHARACTERS:,} characters, or one in quotes that doesn't "
+                          "end: use --quote none if fields have no quotation marks around them") \
+                from None
+        try:
+            use = quoting.advice(self.records_by, self.signs, error)
+        except UnicodeError:
+            self.undecoded()
+        raise Refused(f"{self.path}: line {error.line}: {error}{use}") from None
 
     def records_by(self, signs: Signs, is_strict: bool) -> Iterator[Record]:
         """Yields the records as signs, and whether it is strict, have them read."""

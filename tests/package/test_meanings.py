@@ -1,7 +1,9 @@
 """Files whose columns could become something else: each is read as what it means, named in the
 report, or refused with the options that load it."""
+import contextlib
 import csv
 import io
+import pathlib
 import random
 import unittest
 import zipfile
@@ -10,7 +12,8 @@ import bwtools
 
 from bwtools.telling import Refused
 
-from tests.support import Import, Imported, table_of
+from tests import foreign
+from tests.support import Import, Imported, in_file, source_of, table_of
 
 # each file with the options, the kinds of its columns, its rows as they come back, and a part of
 # the report
@@ -220,6 +223,9 @@ NAMED = [
     ("text after a quote", 'a,b\n1,"x"y\n3,z\n',
      "use --lenient, which reads 'xy', or --quote none, which reads '\"x\"y'",
      {("--lenient",): ["1,xy", "3,z"], ("--quote", "none"): ['1,"x"y', "3,z"]}),
+    ("a table of blanks and quotes, as of R", '"x" "y"\n"r 1" 3 "a b"\n"r2" 5 "c"\n',
+     "use --separator space",
+     {("--separator", "space", "--row-names"): ["r 1,3,a b", "r2,5,c"]}),
     ("an escaped quote", 'a,b\n1,"x\\"y"\n3,z\n',
      "use --escape '\\', which reads 'x\"y', or --lenient, which reads",
      {("--escape", "\\"): ['1,x"y', "3,z"]}),
@@ -264,6 +270,11 @@ class Named(unittest.TestCase):
             self.assertIn(f"'?' in line {line} isn't a number, as 4 of 5 fields are",
                           Import(more + data, *words).refusal)
 
+    def test_a_mark_after_skipped_lines_is_a_character(self):
+        found = Import("title\n\ufeff\nx\n", "--skip", "1")
+        self.assertEqual(found.columns[0].heading, "\ufeff")
+        self.assertEqual(found.rows, ["x"])
+
     def test_encodings(self):
         for text, name in (("日本語", "shift_jis"), ("カタカナとひらがな", "shift_jis"),
                            ("中华人民共和国", "gb18030"), ("한국어", "euc_kr"), ("Gäu", "cp1252")):
@@ -272,6 +283,8 @@ class Named(unittest.TestCase):
                 self.assertIn(f"it may be {name}: use --encoding {name}, which reads '{text},1'",
                               Import(data).refusal)
                 self.assertEqual(Import(data, "--encoding", name).rows, [f"{text},1"])
+        self.assertIn("line 3, byte 2 isn't utf-8",
+                      Import(b'a,b\n1,"x"y\nG\xe4u,2\n').refusal)
         data = "a,b\nZürich,1\nBärn,2\n".encode() + b"G\xe4u,3\n"
         self.assertIn("line 4, byte 2 isn't utf-8: it may be utf-8+cp1252: use --encoding "
                       "utf-8+cp1252, which reads 'Gäu,3', or another one", Import(data).refusal)
@@ -296,6 +309,17 @@ class Named(unittest.TestCase):
                     self.refuse(data[:-30], "can't be unpacked")
                 if names == ["a.csv"]:
                     self.refuse(data[:40] + b"xx" + data[42:], "can't be unpacked")
+        out = io.BytesIO()
+        with zipfile.ZipFile(out, "w") as archive:
+            archive.writestr("a.csv", "a,b\n" + "1,x\n" * 20)
+        draw = random.Random(93)
+        for _ in range(200):
+            data = bytearray(out.getvalue())
+            for _ in range(draw.randrange(1, 4)):
+                place = draw.choice([draw.randrange(40), draw.randrange(len(data) - 80, len(data))])
+                data[place] = draw.randrange(256)
+            with contextlib.suppress(Refused):
+                source_of(bytes(data))
         self.refuse(b"\x28\xb5\x2f\xfd\x04\x00",
                     "is a zstd file: pipe it, as zstd -dc FILE | bw-import - TABLE.bw")
 
@@ -303,6 +327,24 @@ class Named(unittest.TestCase):
         with self.assertRaises(Refused) as refused:
             table_of(data)
         self.assertIn(told, str(refused.exception))
+
+
+class Foreign(unittest.TestCase):
+    """The script for other projects' files types what refusals name."""
+
+    def test_options_are_tried(self):
+        for data, wanted in (
+                ("a,b\n1,2\n", ()), ("a,b\n1,2,\n", ("--trailing-separators",)),
+                ('a\n"1,234"\n', ("--thousands", ",")),
+                ('a,b\n1,"x\\"y"\n', ("--escape", "\\")),
+                ("a b,c\n1,x\n?,y\n3,soon\n4,z\n", ("--null", "a b=?")),
+                ("a,b\n1,2024-01-01\n?,2024-01-02\n3,soon\n4,2024-01-04\n",
+                 ("--null", "a=?", "--null", "b=soon")),
+                ("x y,b\nx  ,1\nx,2\n", ("--drop-blanks=x y",))):
+            with self.subTest(data):
+                tried = in_file(data.encode(), lambda path: foreign.attempts(pathlib.Path(path)))
+                self.assertEqual((tried[-1].refusal, tried[-1].lost, tried[-1].words),
+                                 ("", [], wanted))
 
 
 class Separators(unittest.TestCase):

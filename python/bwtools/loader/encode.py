@@ -60,10 +60,11 @@ class Coded:
         return list(map(int, told.splitlines()[1].split(b",")))
 
 
-def encode(feed: Feed, table: pathlib.Path, fields: pathlib.Path) -> Coded:
-    """Codes a CSV file. Raises Rejected if it isn't one of records of one length."""
+def encode(feed: Feed, table: pathlib.Path, fields: pathlib.Path, fills: bool) -> Coded:
+    """Codes a CSV file, whose short records are filled if that is asked for. Raises Rejected if it
+    isn't one of records of one length."""
     reading, writing = (feed.whole.fileno(), None) if feed.whole else os.pipe()
-    words = ["encode", *feed.words, f"/dev/fd/{reading}", table, fields]
+    words = ["encode", *feed.words, *["--fill"] * fills, f"/dev/fd/{reading}", table, fields]
     with subprocess.Popen([command.program(), *map(str, words)], stdin=subprocess.DEVNULL,
                           stdout=subprocess.DEVNULL, stderr=subprocess.PIPE,
                           restore_signals=False, pass_fds=[reading]) as process:
@@ -171,7 +172,7 @@ class Coder:
             raise TooMuch
         table, fields = self.folder / f"codes-{place}.bw", self.folder / f"fields-{place}"
         try:
-            return encode(feed, table, fields)
+            return encode(feed, table, fields, self.source.fills)
         except Rejected as rejected:
             if rejected.number in (TOO_MANY, TOO_LONG):
                 raise TooMuch from None

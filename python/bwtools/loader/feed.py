@@ -170,13 +170,16 @@ def heading_of(width: int, separator: str = ",", quote: str = '"') -> bytes:
 def feed_of(source: Source, marked: Collection[int] = ()) -> Feed:
     """Returns the bytes of a file, of which some columns must have codes."""
     signs, width = source.text.signs, len(source.headings)
-    if marked or source.fills or not is_plain(signs):
+    if marked or not is_plain(signs):
         return RecordFeed(source, marked, heading_of(width))
     heading = b"" if source.has_heading else heading_of(width, signs.separator, signs.quote)
     if source.text.encoding not in ("utf-8-sig", "utf-8") or source.text.errors != "strict":
         return DecodedFeed(source, heading)
-    file = source.text.file
-    return FileFeed(file, signs, start_of(source), size_of(file), heading)
+    file, start = source.text.file, start_of(source)
+    if os.pread(file.fileno(), len(MARK), start) == MARK:
+        # bw would leave it out, as if the file began there
+        return RecordFeed(source, marked, heading_of(width))
+    return FileFeed(file, signs, start, size_of(file), heading)
 
 
 class Index:
