@@ -397,6 +397,26 @@ class Names(Tools):
                 self.assertEqual((done.status, done.out[-12:], done.err), self.ANSWER)
 
 
+class Closed(Tools):
+    """Standard files that are closed: no other file gets their numbers."""
+
+    def test_closed(self):
+        for data in (SHOP, b"\xef\xbb\xbf" + SHOP):
+            (self.folder / "t.csv").write_bytes(data)
+            for numbers in ((0,), (0, 2), (2,)):
+                for words in (["bw-import", "t.csv", "t.bw"],
+                              ["bw-shards", "load", "--rows", "2", "t.csv", "s"]):
+                    with self.subTest(words[0], numbers=numbers):
+                        done = subprocess.run(
+                            [sys.executable, "-S", PYTHON / "bin" / words[0], *words[1:]],
+                            cwd=self.folder, stdout=subprocess.PIPE, check=False, timeout=LONGEST,
+                            preexec_fn=lambda numbers=numbers: list(map(os.close, numbers)))
+                        self.assertEqual(done.returncode, 0)
+                        done = tool("bw-ask", words[-1], "SELECT COUNT(*), MAX(id) FROM t",
+                                    cwd=self.folder)
+                        self.assertEqual(done, (0, "COUNT(*),MAX(id)\n4,4\n", ""))
+
+
 class Output(Tools):
     """A result that is partly written fails, whether Python's output has a buffer or not, and a
     pipe may be closed."""

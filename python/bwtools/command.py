@@ -117,9 +117,21 @@ def rejections() -> tuple[type[Exception], ...]:
     return Refused, UnicodeError, own
 
 
+def hold_standard_files() -> None:
+    """Opens /dev/null in place of each standard file that is closed, or another file would get its
+    number, by which bw couldn't read it."""
+    for number in range(3):
+        try:
+            os.fstat(number)
+        except OSError:
+            # it gets the least free number
+            os.open(os.devnull, os.O_RDWR)
+
+
 def status_of(name: str, work: Callable[[], int | None]) -> int:
     """Does a program's work. Returns its status: 3 if the input was rejected, 5 if I/O failed, 6 if
     memory was refused."""
+    hold_standard_files()
     for number in (signal.SIGTERM, signal.SIGHUP):
         if signal.getsignal(number) == signal.SIG_DFL:
             signal.signal(number, stop)
