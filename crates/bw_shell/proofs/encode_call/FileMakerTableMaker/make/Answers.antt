@@ -5,7 +5,7 @@ use Rattle.bw_model.specs.declared.schema.Schema.{Schema}
 use Rattle.bw_file.specs.Encoder.{encoder_schema}
 use Rattle.bw_encode.specs.CodedTable.{encodings_in, rows_in}
 use Rattle.bw_encode.specs.Table.{rows_upto}
-use Rattle.bw_recode.proofs.ReplacingLemmas.{files_alike}
+use Rattle.bw_file.proofs.TableLemmas.{bytes_alike}
 use Rattle.bw_shell.proofs.encode_call.FileMakerTableMaker.make.Goals as goal
 
 pub returns-clause-bytes : goal.returns-clause-bytes
@@ -16,7 +16,7 @@ returns-clause-bytes c =
       schema = schema;
       narrow = c.in_ok-schema.ensures.schema;
       made = text (rows_upto (encodings_in c.args.table.now) (rows_in c.args.table.now)) (led.holds [] c.in_ok-encoder.ensures.holds)
-          ∙ files_alike _ _ (encoder_schema c.deliver.new.taker) schema _ (led.layout ∙ c.in_ok-encoder.ensures.layout)
+          ∙ bytes_alike _ _ (encoder_schema c.deliver.new.taker) schema _ (led.layout ∙ c.in_ok-encoder.ensures.layout)
           (ap (λ (schema : Schema). schema.name) led.schema ∙ c.in_ok-encoder.ensures.name)
           (ap (λ (schema : Schema). schema.columns.items) led.schema ∙ c.in_ok-encoder.ensures.columns);
     }) c.finish.ensures.bytes
