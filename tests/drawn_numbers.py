@@ -20,7 +20,7 @@ import tests  # noqa: F401  finds bwtools
 import bwtools
 from bwtools._sql import plan
 from bwtools._sql.statement import Statement
-from bwtools.telling import Refused
+from bwtools._errors import Refused
 from tests import reference, support
 
 # the columns, and the digits after the point of decimals; -1 are floats

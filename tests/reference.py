@@ -14,7 +14,7 @@ from typing import Any, Callable, Iterable, Iterator, Sequence
 import bwtools
 from bwtools._sql import plan
 from bwtools._sql.statement import Statement
-from bwtools.telling import Refused
+from bwtools._errors import Refused
 
 from tests import support
 

@@ -24,13 +24,14 @@ import warnings
 from typing import Any, Callable, Iterable, NamedTuple, Sequence, TypeVar
 
 import bwtools
-from bwtools import importing, kinds
+from bwtools import importing
+from bwtools._types import kinds
 from bwtools.options import add_options, parsed
 from bwtools._cli import import_
 from bwtools.loader.table import Table, write_numbers
-from bwtools.sorted_list import SortedList
+from bwtools._types.dictionary import SortedList
 from bwtools.source import Source
-from bwtools.telling import Refused
+from bwtools._errors import Refused
 
 ROOT = pathlib.Path(__file__).resolve().parent.parent
 PYTHON = ROOT / "python"

@@ -22,7 +22,7 @@ import shutil
 import sqlite3
 import subprocess
 
-from bwtools.telling import Refused
+from bwtools._errors import Refused
 
 from tests import drawn, reference, support
 

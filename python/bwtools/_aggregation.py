@@ -15,15 +15,12 @@ from typing import (TYPE_CHECKING, Any, Callable, Iterable, Iterator, Mapping, O
                     Sequence, Tuple)
 
 from ._engine.executor import COUNT, added
-from ._result import (INFINITE_BITS, MOST_EXACT, NULL, Value, blob_of, columns_of, foreign,
-                      integers_of, is_double, number_in, stored)
-from ._result import doubles as decoded
-from .codes import Codes
-from .column import Column
-from .kind import GREATEST, LEAST, Kind
-from .kinds import undressed
-from .telling import Refused
-from .valued import Valued
+from ._result import (INFINITE_BITS, MOST_EXACT, NULL, Value, blob_of, columns_of, doubles as
+                      decoded, foreign, integers_of, is_double, number_in, stored)
+from ._types.dictionary import Codes
+from ._types.base import GREATEST, LEAST, Column, Kind, Valued
+from ._types.kinds import undressed
+from ._errors import Refused
 
 if TYPE_CHECKING:
     import sqlite3
@@ -129,7 +126,7 @@ def float_sum(doubles: Sequence[float]) -> float:
         return math.fsum(doubles)
     except OverflowError:
         from fractions import Fraction
-        from .kinds.doubles import nearest
+        from ._types.numbers import nearest
         return nearest(sum(map(Fraction, doubles), Fraction()))
 
 
@@ -538,7 +535,7 @@ def summed(values: Sequence[Any]) -> int | float | None:
         whole = sum(value for value in values if isinstance(value, int))
         if -MOST_WHOLE < whole < MOST_WHOLE:
             return float_sum([whole, *(value for value in values if isinstance(value, float))])
-        from .kinds.doubles import nearest
+        from ._types.numbers import nearest
         from fractions import Fraction
         return nearest(sum(map(Fraction, values), Fraction()))
     infinite: float = sum(map(float, values))

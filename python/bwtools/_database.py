@@ -11,11 +11,10 @@ from ._result import Result
 from ._sql import plan
 from ._sql.statement import Parameters, Statement
 from ._sql.tables import Catalog, Table
-from .column import Column
-from .failed import Failed
+from ._types.base import Column
+from ._errors import Failed, Refused
 from .regular import ATTEMPTS
-from .telling import Refused
-from .waiting import Waiting
+from ._progress import Waiting
 
 if TYPE_CHECKING:
     from ._sql.by_sqlite import BySqlite

@@ -7,10 +7,12 @@ import importlib
 from typing import Any, Callable, NamedTuple, Sequence
 
 from ._result import NumberRows, Numbers, Result, ResultColumn, foreign, objects_of
-from .kind import GREATEST, LEAST, Kind
-from .kinds import Clocks, Dates, Decimals, Floats, Ranked, Texts, Times, Truths, undressed
-from .numerals import power_of_ten
-from .telling import Refused
+from ._types.base import GREATEST, LEAST, Kind
+from ._types.kinds import Texts, undressed
+from ._types.numbers import Decimals, Floats, Ranked, Truths
+from ._types.temporal import Clocks, Dates, Times
+from ._types.number_format import power_of_ten
+from ._errors import Refused
 
 # numbers up to this one are doubles
 MOST_EXACT = 1 << 53

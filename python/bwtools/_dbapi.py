@@ -9,10 +9,9 @@ from typing import TYPE_CHECKING, Any, Callable, Optional, Sequence, Tuple, Type
 
 from ._database import Database, Settings
 from ._result import Position, Result, ResultColumn, Values
-from .failed import failure_of, is_failure
+from ._errors import Refused, failure_of, is_failure
 from ._sql.statement import Parameters
 from ._sql.tables import name_of, open_catalog
-from .telling import Refused
 
 if TYPE_CHECKING:
     import datetime

@@ -9,8 +9,8 @@ import re
 from typing import Any, Callable, Iterator, Sequence, TextIO
 
 from ._result import Numbers, Result, Values
-from .column import Column
-from .telling import Refused, counted, shown
+from ._types.base import Column
+from ._errors import Refused, counted, shown
 
 FORMATS = ("csv", "table", "json", "markdown", "tsv", "vertical")
 QUOTE, QUOTED = '"', re.compile('[",\r\n]')
@@ -245,7 +245,7 @@ class Back:
         found = re.fullmatch(r"(?:(COUNT|SUM|MIN|MAX)\()?([^()]+)\)?", heading)
         named = [column for column in columns if found
                  and column.name.lower() == found.group(2).lower()]
-        from .kinds import Whole
+        from ._types.kinds import Whole
         whole = Whole()
         self.heading, self.kind, self.is_whole = heading, whole, True
         self.turn: Turn = whole.spell
@@ -287,7 +287,7 @@ def no_sum(column: Column) -> str:
     """Returns why a column has no sum."""
     told = f"SUM({column.name}): {column.name} has {column.kind.plural}, which can't be summed"
     if column.kind.plural == "floats":
-        from .naming import option
+        from ._identifiers import option
         return (f"{told} exactly: list them and add them, or import the file again with "
                 f"{option('--digits', f'{column.heading}=N')}, which rounds them to N digits")
     return f"{told}: use COUNT, MIN or MAX"

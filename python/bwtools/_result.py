@@ -12,17 +12,14 @@ import operator
 from typing import TYPE_CHECKING, Any, Callable, Iterator, Sequence, Tuple, Union
 
 from ._engine.executor import COUNT, Engine, Outside, Part, both, names_of, select
-from .failed import Failed
-from .kind import Kind, Literal
-from .kinds import undressed
-from .listed import Place
-from .telling import Refused
-from .valued import Valued
+from ._errors import Failed, Refused
+from ._types.base import Kind, Literal, Place, Valued
+from ._types.kinds import undressed
 
 if TYPE_CHECKING:
     from array import array
 
-    from .column import Column
+    from ._types.base import Column
 
 # a value as SQLite has it; our tables have no bytes, but expressions may
 Value = Union[None, int, float, str, bytes]
@@ -71,7 +68,7 @@ def plain_of(kind: Kind) -> Kind:
         found: Kind = plain
         return found
     # few statements need them
-    from .kinds import Clocks, Dates, Times
+    from ._types.temporal import Clocks, Dates, Times
     if kind.name == "dates":
         return Dates()
     if kind.name == "times":
@@ -82,8 +79,7 @@ def plain_of(kind: Kind) -> Kind:
 def iso_text(kind: Kind, literal: str) -> str:
     """Returns the ISO form of a date or a time: that of the column's value, or else a text that is
     between those of two values, as the literal is."""
-    from .kinds import Clocks, Times
-    from .moments import read_moment
+    from ._types.temporal import Clocks, Times, read_moment
     found = kind.place(literal)
     if found and found[1]:
         return plain_of(kind).text(found[0])
@@ -113,7 +109,7 @@ def stored(kind: Kind, numbers: Sequence[int]) -> list[Any]:
     if plain.name == "ranked":
         return list(plain.listed.values(numbers))
     if plain.name == "times":
-        from .plain_times import spelled_times
+        from ._types.temporal import spelled_times
         return spelled_times(numbers, ISO_TIME, plain.digits, "")
     if plain.name == "truths" and not set(numbers) <= {0, 1}:
         raise IndexError
@@ -174,10 +170,10 @@ def read_values(plain: Any, values: Sequence[Any]) -> list[int]:
                 for value in values]
     if plain.name == "dates":
         import datetime
-        from .moments import FIRST_DAY
+        from ._types.temporal import FIRST_DAY
         return [datetime.date.fromisoformat(value).toordinal() - FIRST_DAY for value in values]
     if plain.name == "times" and values:
-        from .plain_times import plain_times
+        from ._types.temporal import plain_times
         found = plain_times(values)
         if found and found.shape == (" ", True, plain.digits, ""):
             return found.numbers
@@ -192,7 +188,7 @@ def is_double(number: int, digits: int) -> bool:
     if abs(number) < MOST_EXACT:
         return True
     # few numbers are so long
-    from .numerals import scaled
+    from ._types.number_format import scaled
     return scaled(repr(number / 10 ** digits), digits) == number
 
 
@@ -332,7 +328,7 @@ def objects_of(kind: Kind, numbers: Sequence[int]) -> list[Any]:
         return list(map(decimal.Decimal, type(plain)(plain.digits, 0).spell(numbers)))
     if plain.name == "dates":
         import datetime
-        from .moments import FIRST_DAY
+        from ._types.temporal import FIRST_DAY
         return [datetime.date.fromordinal(number + FIRST_DAY) for number in numbers]
     found = stored(plain, numbers)
     if plain.name == "truths":

@@ -14,10 +14,10 @@ from .judges.numbers import NumberJudge
 from .judges.truths import TruthJudge
 from .judges.verdict import Decision, Question, Verdict
 from .judges.wanted import WantedJudge
-from .kinds.nulls import Nulls
-from .moments import is_like_date
-from .naming import option
-from .telling import counted, shown
+from ._types.base import Nulls
+from ._types.temporal import is_like_date
+from ._identifiers import option
+from ._errors import counted, shown
 from .wishes import BLANKS
 
 # a column that is mostly of a kind, and has at most so many other words, is refused

@@ -15,15 +15,13 @@ from .judges.numbers import NumberJudge
 from .judges.truths import TruthJudge
 from .judges.verdict import Decision, Question, Verdict
 from .judges.wanted import WantedJudge
-from .kind import Kind
-from .kinds.nulls import Nulls
-from .kinds.times import Times
-from .moments import ISO_DATE
-from .naming import option
-from .numerals import is_number
+from ._types.base import Kind, Nulls
+from ._types.temporal import ISO_DATE, Times
+from ._identifiers import option
+from ._types.number_format import is_number
 from .questions import Asked, refuse
 from .source import Source
-from .telling import Refused, shown
+from ._errors import Refused, shown
 from .textual import text_question
 from .wishes import BLANKS
 

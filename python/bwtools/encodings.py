@@ -7,8 +7,8 @@ import importlib
 import re
 from typing import BinaryIO, Iterable, Iterator
 
-from .naming import option
-from .telling import shown
+from ._identifiers import option
+from ._errors import shown
 
 # UTF-8, of which a byte that isn't is read as one of cp1252; and the name of its error handler
 MIXED, HANDLER = "utf-8+cp1252", "bwtools.cp1252"

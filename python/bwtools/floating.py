@@ -8,13 +8,11 @@ from typing import Iterator, Sequence
 
 from .judges.fields import Fields
 from .judges.verdict import Decision
-from .kinds.doubles import bits_of
-from .kinds.floats import Floats
-from .kinds.ranked import Ranked
-from .kinds.styled import Numbers, Styled
+from ._types.numbers import Floats, Ranked, bits_of
+from ._types.base import Numbers, Styled
 from .plain import Numbered, values_of
-from .sorted_list import SortedList
-from .style import Style
+from ._types.dictionary import SortedList
+from ._types.number_format import Style
 
 WIDEST = 1 << 63
 

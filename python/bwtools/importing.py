@@ -9,16 +9,16 @@ import pathlib
 import tempfile
 from typing import Sequence
 
-from . import command, inputs, options, pairs, placing, processes, store
-from .column import Column
+from . import _errors, inputs, options, pairs, placing, processes, store
+from ._types.base import Column
 from .loader.encode import processes_for
 from .loader.table import Table
 from .regular import Watched, open_regular
 from .shards import FILE, Folder, refuse_folder, shard_file
 from .store import MOST_TABLES, Store, TableFile
-from .table_limits import MOST_ROWS
-from .telling import Refused, counted
-from .waiting import Waiting
+from ._identifiers import MOST_ROWS
+from ._errors import Refused, counted
+from ._progress import Waiting
 
 
 def dry_run(given: argparse.Namespace) -> None:
@@ -30,14 +30,14 @@ def dry_run(given: argparse.Namespace) -> None:
 def import_file(given: argparse.Namespace, out: str, is_folder: bool) -> None:
     """Imports a file, all of it or nothing, and prints the kind of each column. A target that is a
     folder of shards stays one."""
-    name = command.table_name(given.name, out)
+    name = _errors.table_name(given.name, out)
     path = out.rstrip("/") or "/"
     if not os.path.isdir(path):
         placing.refuse_target(path, [inputs.path_of(given.csv)])
     elif not is_folder and not os.path.lexists(os.path.join(path, FILE)):
         raise Refused(f"{path} can't be overwritten: it is a folder")
     refuse_out(path)
-    command.program()
+    _errors.program()
     is_folder = is_folder or os.path.isdir(path)
     with placing.new_folder(path) as room, inputs.open_input(given.csv) as file:
         table = Table(given.csv, given, room, file, is_folder)

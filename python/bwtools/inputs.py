@@ -14,7 +14,7 @@ import tempfile
 import zlib
 from typing import IO, Any, BinaryIO
 
-from .telling import Refused, counted
+from ._errors import Refused, counted
 
 # the first bytes of each form, its name, and the module that opens it
 FORMS = ((b"\x1f\x8b\x08", "gzip", "gzip"), (b"BZh", "bzip2", "bz2"),

@@ -12,15 +12,14 @@ import re
 import zlib
 from typing import TYPE_CHECKING, Any, BinaryIO, Iterator, List, Sequence, Tuple
 
-from .failed import Failed
+from ._errors import Failed, Refused
 from .regular import Marks, Watched, open_regular
 from .store import Store, TableFile
-from .telling import Refused
 
 if TYPE_CHECKING:
     import pathlib
 
-    from .column import Column
+    from ._types.base import Column
 
 # how often a pair is opened again that is replaced at that moment
 ATTEMPTS = 100

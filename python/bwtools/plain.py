@@ -10,8 +10,8 @@ import re
 from dataclasses import dataclass, field
 from typing import Any, Iterable, NamedTuple, Sequence
 
-from .numerals import is_grouped
-from .plain_times import plain_times
+from ._types.number_format import is_grouped
+from ._types.temporal import plain_times
 from .spans import LONGEST, MOST_DIGITS, Spans
 
 FLOATS = re.compile(r"(?:-?(?:[0-9]+(?:\.[0-9]+)?)(?:e[+-][0-9]+)?\n)*")

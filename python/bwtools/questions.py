@@ -7,9 +7,9 @@ from typing import Mapping, NamedTuple, NoReturn, Sequence
 
 from .judges.fields import Fields
 from .judges.verdict import Question
-from .naming import option
+from ._identifiers import option
 from .source import Source
-from .telling import Refused, shown
+from ._errors import Refused, shown
 from .wishes import BLANKS
 
 

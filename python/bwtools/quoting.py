@@ -9,7 +9,7 @@ from typing import Callable, Iterator, Optional
 
 from .ragged import LOOKED, Record
 from .signs import NO_QUOTE, Signs
-from .telling import shown
+from ._errors import shown
 
 # reads a file with signs, strictly or not
 Reader = Callable[[Signs, bool], Iterator[Record]]

@@ -5,10 +5,10 @@ from __future__ import annotations
 import itertools
 from typing import Callable, Iterable, Iterator, NoReturn, Sequence
 
-from .numerals import is_number
+from ._types.number_format import is_number
 from .separators import CANDIDATES, separator_option
-from .table_limits import MOST_COLUMNS
-from .telling import Refused, counted
+from ._identifiers import MOST_COLUMNS
+from ._errors import Refused, counted
 
 # how many such rows are named, and how many records are read to see what is the matter
 MOST, LOOKED = 3, 1 << 17

@@ -8,8 +8,8 @@ import stat
 import time
 from typing import BinaryIO, Callable
 
-from .telling import Refused
-from .valued import Valued
+from ._errors import Refused
+from ._types.base import Valued
 
 # how often, and after how many seconds, a file is compared again that may be moved
 ATTEMPTS, WAIT = 5, .005

@@ -14,7 +14,7 @@ from typing import BinaryIO, Callable, Iterable, Iterator, Optional
 from . import ragged
 from .ragged import Record
 from .signs import Signs
-from .telling import Refused, shown
+from ._errors import Refused, shown
 from .wishes import BLANKS
 
 RUN, BREAK = re.compile("[ \t]+"), re.compile("\r\n|\r|\n")

@@ -4,7 +4,7 @@ from __future__ import annotations
 import decimal
 from dataclasses import dataclass
 
-from .style import Style
+from ._types.number_format import Style
 
 
 # a number of more digits fits no 64 bits, and neither does this one

@@ -6,9 +6,9 @@ import re
 from dataclasses import dataclass
 from typing import NamedTuple, Optional, Sequence
 
-from .naming import option
+from ._identifiers import option
 from .signs import Signs
-from .telling import counted
+from ._errors import counted
 
 # the separators that are chosen from, and by how many rows
 CANDIDATES, ROWS = ",;\t|", 200

@@ -14,11 +14,10 @@ import shutil
 import subprocess
 from typing import Sequence
 
-from .failed import FILES, UNREAD
+from ._errors import FILES, UNREAD, Refused
 from .pairs import is_of, watch
 from .regular import ATTEMPTS, Watched
 from .store import FOLDERS, OtherVersion, Store, TableFile
-from .telling import Refused
 
 FILE = FOLDERS
 SHARD = re.compile(r"shard-[0-9]{3,}\.bw")

@@ -9,10 +9,9 @@ from dataclasses import dataclass
 from typing import BinaryIO, Iterator, NoReturn, Sequence
 
 from . import ragged
-from .naming import option
-from .numerals import is_number
-from .table_limits import MOST_COLUMNS, MOST_ROWS
-from .telling import Refused, shown
+from ._identifiers import MOST_COLUMNS, MOST_ROWS, option
+from ._types.number_format import is_number
+from ._errors import Refused, shown
 from .text import Text
 
 

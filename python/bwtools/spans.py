@@ -5,7 +5,7 @@ import math
 from dataclasses import dataclass, field
 from typing import Sequence
 
-from .kind import GREATEST, LEAST
+from ._types.base import GREATEST, LEAST
 
 # a number of more characters doesn't fit 64 bits
 LONGEST, MOST_DIGITS = 100, 18

@@ -15,15 +15,12 @@ import sqlite3
 import zlib
 from typing import Any, Iterable, Iterator, Sequence
 
-from . import kinds
-from .column import Column
-from .failed import MEMORY, Failed, failure_of
-from .kind import Settings
-from .naming import is_name
+from ._types import kinds
+from ._types.base import Column, Settings, Valued
+from ._errors import MEMORY, Failed, Refused, counted, failure_of
+from ._identifiers import is_name
 from .regular import Watched, open_regular
-from .stored_list import StoredList, are_ascending, blocks_of, packed, sum_of_block
-from .telling import Refused, counted
-from .valued import Valued
+from ._types.dictionary import StoredList, are_ascending, blocks_of, packed, sum_of_block
 
 VERSION, APPLICATION, MAGIC = 4, 0x62776331, b"SQLite format 3\0"
 # the first bytes of a columns file of the versions before, which was JSON

@@ -19,8 +19,8 @@ from .records import Records
 from .regular import Marks
 from .rewriting import Changes, changes_of, rewritten, without_runs
 from .signs import NUL, Signs
-from .table_limits import MOST_CHARACTERS
-from .telling import Refused
+from ._identifiers import MOST_CHARACTERS
+from ._errors import Refused
 
 MARKS = ((b"\xef\xbb\xbf", "utf-8-sig"), (b"\xff\xfe", "utf-16"), (b"\xfe\xff", "utf-16"))
 BYTES_AT_ONCE = 1 << 18

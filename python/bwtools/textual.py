@@ -9,8 +9,7 @@ from typing import Iterator, Optional, Sequence
 
 from .judges.fields import Fields
 from .judges.verdict import Question
-from .kinds.text_blocks import TextBlocks
-from .kinds.texts import Texts
+from ._types.dictionary import TextBlocks, Texts
 from .wishes import BLANKS
 
 

@@ -5,7 +5,7 @@ import argparse
 from dataclasses import dataclass, replace
 from typing import Optional
 
-from .telling import Refused, shown
+from ._errors import Refused, shown
 
 # words that are null in a column of numbers, dates, times or booleans
 NULLS = ("NULL", "null", "NA", "N/A", "-")

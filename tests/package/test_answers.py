@@ -2,10 +2,10 @@
 import io
 import unittest
 
-from bwtools import _output as answers
-from bwtools import fields, kinds
-from bwtools.column import Column
-from bwtools.telling import Refused
+from bwtools import _output as answers, fields
+from bwtools._types import kinds
+from bwtools._types.base import Column
+from bwtools._errors import Refused
 from tests.support import texts
 
 COLUMNS = [Column("n", "n", kinds.Whole(), ["NA"]),

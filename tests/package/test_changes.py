@@ -13,7 +13,7 @@ from bwtools import shards
 from bwtools._cli import asking
 from bwtools._database import Database
 from bwtools._sql.tables import open_catalog
-from bwtools.failed import Failed
+from bwtools._errors import Failed
 
 from tests.support import BW, Imported, Running, TestCase, in_fork, imported, tool, write_script
 

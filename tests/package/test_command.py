@@ -2,8 +2,8 @@
 import argparse
 import unittest
 
-from bwtools import command, options
-from bwtools.telling import Refused
+from bwtools import _errors, options
+from bwtools._errors import Refused
 
 
 def parsed(*words):
@@ -41,7 +41,7 @@ class Arguments(unittest.TestCase):
                             ("select.bw", "select_"), ("t.csv", "t_csv"), (None, "t"),
                             ("é%.bw", "e_"),
                             ("%.bw", "_"), ("folder", "folder")):
-            self.assertEqual(command.table_name(None, out), wanted)
-        self.assertEqual(command.table_name("u", "trips.bw"), "u")
+            self.assertEqual(_errors.table_name(None, out), wanted)
+        self.assertEqual(_errors.table_name("u", "trips.bw"), "u")
         with self.assertRaisesRegex(Refused, "'a b' is not a valid name"):
-            command.table_name("a b", "trips.bw")
+            _errors.table_name("a b", "trips.bw")

@@ -6,13 +6,13 @@ import unittest
 from unittest import mock
 
 import bwtools
-from bwtools import kinds
+from bwtools._types import kinds
 from bwtools._aggregation import Aggregate
 from bwtools._result import columns_of
 from bwtools._sql import cost
 from bwtools._sql.by_sqlite import text_of
 from bwtools._sql.statement import Statement
-from bwtools.column import Column
+from bwtools._types.base import Column
 
 from tests.support import Imported
 

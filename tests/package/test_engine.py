@@ -8,14 +8,13 @@ import threading
 import unittest
 from unittest import mock
 
-from bwtools import command
-from bwtools.failed import Failed
+from bwtools import _errors
+from bwtools._errors import Failed, Refused
 from bwtools._engine import cluster, executor
 from bwtools._engine.process import MOST_AHEAD, SURPLUS
-from bwtools.telling import Refused
 
 COUNTS = "read a; read b; printf 'COUNT(*),MAX(x)\\n%s\\n\\n' "
-BW = command.program()
+BW = _errors.program()
 
 
 class Temporary(unittest.TestCase):

@@ -10,7 +10,7 @@ import threading
 from unittest import mock
 
 import bwtools
-from bwtools import failed, store
+from bwtools import _errors, store
 from bwtools._sql import plan
 
 from tests.support import (BW, PYTHON, Imported, TestCase, content, import_package, imported,
@@ -83,7 +83,7 @@ class Memory(Failures):
 
     def test_a_mistake_of_ours_is_none(self):
         for what in (RuntimeError("another"), ImportError("no module"), KeyError("memory")):
-            self.assertFalse(failed.is_failure(what))
+            self.assertFalse(_errors.is_failure(what))
 
     def test_in_threads(self):
         for target, error in (("bwtools._engine.process.Session.totals", MemoryError()),

@@ -8,7 +8,7 @@ import unittest
 from unittest import mock
 
 from bwtools import importing, pairs, placing, store
-from bwtools.column import Column
+from bwtools._types.base import Column
 from bwtools.shards import FILE, Folder, shard_file
 
 from tests.support import in_fork, texts

@@ -7,9 +7,10 @@ import unittest
 from fractions import Fraction
 from unittest import mock
 
-from bwtools import kinds, store
-from bwtools.column import Column
-from bwtools.sorted_list import SortedList
+from bwtools import store
+from bwtools._types import kinds
+from bwtools._types.base import Column
+from bwtools._types.dictionary import SortedList
 from bwtools._engine.executor import Outside
 from bwtools._result import Limits
 from bwtools._sql import plan, pushdown, questions
@@ -20,7 +21,7 @@ from bwtools._sql.pushdown import Comparand
 from bwtools._sql.statement import Statement
 from bwtools._sql.syntax import Literal, walk
 from bwtools._sql.tables import Catalog, Table
-from bwtools.telling import Refused
+from bwtools._errors import Refused
 from tests.support import texts
 
 CITIES = ("Bern", "Genf", "O'Hare", "Zug", "bern", "x_y", "ärger")

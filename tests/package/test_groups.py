@@ -6,10 +6,9 @@ import unittest
 from unittest import mock
 
 import bwtools
-from bwtools import kinds
-from bwtools.failed import Failed
-from bwtools import _aggregation as counted
-from bwtools import _result as rows
+from bwtools._types import kinds
+from bwtools._errors import Failed, Refused
+from bwtools import _aggregation as counted, _result as rows
 from bwtools._aggregation import float_sum
 from bwtools._engine import executor
 from bwtools._engine.executor import Part
@@ -17,7 +16,6 @@ from bwtools._result import Limits
 from bwtools._sql import groups, plan
 from bwtools._sql.groups import Wanted
 from bwtools._sql.statement import Statement
-from bwtools.telling import Refused
 from tests.support import Imported, imported
 
 CITIES = ("Bern", "Genf", "Zug")

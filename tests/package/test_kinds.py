@@ -5,9 +5,9 @@ import struct
 import unittest
 from fractions import Fraction
 
-from bwtools import kinds
-from bwtools.sorted_list import SortedList
-from bwtools.style import Style
+from bwtools._types import kinds
+from bwtools._types.dictionary import SortedList
+from bwtools._types.number_format import Style
 from tests.support import texts
 
 # the day of 2024-05-01, worked out in test_moments

@@ -6,31 +6,32 @@ import unittest
 import bwtools
 
 ROOT = pathlib.Path(bwtools.__file__).parent
-# bottom first; those of one line don't import each other, but for what imports and stores tables,
-# which is below all of these and has no line here
+# bottom first; those of one line don't import each other; a line that begins with + continues one
 LAYERS = """
-    _engine.process
-    _engine.executor
-    _engine.cluster _result
-    _aggregation _dataframes
-    _sql.tables _sql.lexer _sql.cost
-    _sql.syntax
-    _sql.parser _sql.expressions _sql.literals
-    _sql.resolve
-    _sql.prepare _sql.validate _sql.render _sql.pushdown
-    _sql.statement _sql.questions _sql.listing
-    _sql.groups _sql.by_sqlite
-    _sql.plan
-    _database
-    _dbapi _output
-    __init__
-    _cli.options _cli.statements
-    _cli.shell
-    _cli.asking
-    _cli.ask _cli.import_ _cli.shards _cli.to_numbers _cli.from_numbers""".split("\n")[1:]
+    __init__ _cli.__init__ _cli.statements _identifiers _progress _types.number_format
+     +loader.dictionary processes records signs
+    _errors _types.base comments fields judges.survey options rounding
+    _engine.process _types.dictionary _types.numbers _types.temporal encodings inputs placing
+     +regular separators spans wishes
+    _engine.executor _sql.lexer _types.kinds plain ragged
+    _result judges.fields judges.verdict loader.reporting quoting rewriting store
+    _aggregation _dataframes _output floating judges.judge judges.likeness judges.spellings
+     +judges.truths pairs text textual
+    _sql.cost judges.clocks judges.dates judges.numbers shards source
+    _engine.cluster _sql.tables judges.wanted loader.feed questions
+    _cli.shell _sql.syntax court loader.encode
+    _sql.expressions _sql.literals _sql.parser deciding
+    _sql.pushdown _sql.resolve loader.numbers
+    _sql.prepare _sql.questions _sql.render _sql.validate loader.table
+    _sql.groups _sql.listing _sql.statement importing
+    _cli.options _sql.by_sqlite _sql.plan
+    _cli.from_numbers _cli.import_ _cli.to_numbers _database
+    _cli.asking _dbapi
+    _cli.ask _cli.shards""".replace("\n     +", " ").split("\n")[1:]
 PLACES = {name: place for place, line in enumerate(LAYERS) for name in line.split()}
 # modules without code of their own
-EMPTY = ("_cli.__init__", "_engine.__init__", "_sql.__init__")
+EMPTY = ("_engine.__init__", "_sql.__init__", "_types.__init__", "judges.__init__",
+         "loader.__init__")
 
 
 def is_for_types(node):
@@ -54,13 +55,13 @@ def imported(path):
                              *filter(None, [node.module])])
             for alias in node.names:
                 found = f"{base}.{alias.name}".strip(".")
-                if (ROOT / f"{found.replace('.', '/')}.py").exists() or \
-                        (ROOT / found.replace(".", "/")).is_dir():
+                if (ROOT / f"{found.replace('.', '/')}.py").exists():
                     yield found
                 elif (ROOT / f"{base.replace('.', '/')}.py").exists():
                     yield base
-                elif not base:
-                    yield "__init__"
+                else:
+                    of = found if (ROOT / found.replace(".", "/")).is_dir() else base
+                    yield f"{of}.__init__".strip(".")
 
 
 class Layers(unittest.TestCase):
@@ -68,12 +69,13 @@ class Layers(unittest.TestCase):
         count = 0
         for path in sorted(ROOT.rglob("*.py")):
             name = ".".join(path.relative_to(ROOT).with_suffix("").parts)
-            place = PLACES.get(name, -1)
+            if name in EMPTY:
+                continue
             with self.subTest(name):
-                self.assertEqual(name[0] == "_", name in PLACES or name in EMPTY, "has no layer")
+                self.assertIn(name, PLACES, "has no layer")
                 for other in imported(path):
-                    above = PLACES.get(other, -1)
-                    self.assertTrue(above < place or above == place == -1,
+                    self.assertLess(PLACES.get(other, -1), PLACES[name],
                                     f"imports {other}, which isn't below it")
+                    self.assertTrue(other in PLACES or other in EMPTY, f"{other} has no layer")
                     count += 1
         self.assertGreater(count, 200)

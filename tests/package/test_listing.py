@@ -8,13 +8,12 @@ import bwtools
 from bwtools._aggregation import NeedsExact, summed
 from bwtools._engine.executor import Part
 from bwtools._result import number_in
-from bwtools.failed import Failed
+from bwtools._errors import Failed, Refused
 from bwtools._sql import by_sqlite
 from bwtools._sql.prepare import FUNCTIONS
 from bwtools._sql.pushdown import pushed
 from bwtools._sql.render import Renderer
 from bwtools._sql.statement import Statement
-from bwtools.telling import Refused
 
 from tests.support import Imported, imported
 

@@ -16,7 +16,7 @@ from bwtools.loader import dictionary, encode, feed
 from bwtools.loader.dictionary import ByteFile, merge, read_fields
 from bwtools.shards import Folder
 from bwtools.signs import Signs
-from bwtools.telling import Refused
+from bwtools._errors import Refused
 
 from tests.support import Import, TestCase, bw, described
 

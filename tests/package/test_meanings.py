@@ -10,7 +10,7 @@ import zipfile
 
 import bwtools
 
-from bwtools.telling import Refused
+from bwtools._errors import Refused
 
 from tests import foreign
 from tests.support import Import, Imported, in_file, source_of, table_of

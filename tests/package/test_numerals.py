@@ -1,9 +1,8 @@
 """Numbers as people spell them, and the names of columns."""
 import unittest
 
-from bwtools.naming import is_name, name_like, names_of
-from bwtools.numerals import LAKHS, Marks, is_number, marks_of, parts_of, scaled
-from bwtools.style import Style
+from bwtools._identifiers import is_name, name_like, names_of
+from bwtools._types.number_format import LAKHS, Marks, Style, is_number, marks_of, parts_of, scaled
 
 
 class Numerals(unittest.TestCase):

@@ -10,8 +10,8 @@ import bwtools
 def functions():
     """Yields every function and method of the package, by name, without those that named tuples
     get."""
-    for found in pkgutil.iter_modules(bwtools.__path__):
-        module = importlib.import_module(f"bwtools.{found.name}")
+    for found in pkgutil.walk_packages(bwtools.__path__, "bwtools."):
+        module = importlib.import_module(found.name)
         owners = [module, *(each for each in vars(module).values() if inspect.isclass(each) and
                             each.__module__ == module.__name__)]
         for owner in owners:

@@ -11,8 +11,8 @@ import zlib
 from unittest import mock
 
 from bwtools import pairs, placing, store
-from bwtools.column import Column
-from bwtools.telling import Refused
+from bwtools._types.base import Column
+from bwtools._errors import Refused
 
 from tests.support import Imported, described, in_fork, texts, tool
 

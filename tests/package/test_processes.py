@@ -5,7 +5,7 @@ import time
 import unittest
 
 from bwtools import processes
-from bwtools.telling import Refused
+from bwtools._errors import Refused
 
 
 def refuse(part):

@@ -7,7 +7,7 @@ import tempfile
 import unittest
 from unittest import mock
 
-from bwtools.failed import Failed
+from bwtools._errors import Failed
 from bwtools._engine.process import (AT_ONCE, SURPLUS, Session, SessionOutput,
                                      one_statement)
 

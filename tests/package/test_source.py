@@ -12,7 +12,7 @@ from bwtools import fields
 from bwtools.loader.dictionary import texts_of
 from bwtools.loader.encode import Coder
 from bwtools.source import Source
-from bwtools.telling import Refused
+from bwtools._errors import Refused
 
 from tests.support import bw, in_file, options, source_of
 

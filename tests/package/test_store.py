@@ -8,12 +8,13 @@ import tempfile
 import time
 import unittest
 
-from bwtools import kinds, store, stored_list
-from bwtools.column import Column
-from bwtools.sorted_list import SortedList
+from bwtools import store
+from bwtools._types import dictionary, kinds
+from bwtools._types.base import Column
+from bwtools._types.dictionary import SortedList
 from bwtools.store import Store, TableFile
-from bwtools.style import Style
-from bwtools.telling import Refused
+from bwtools._types.number_format import Style
+from bwtools._errors import Refused
 
 from tests.support import described, texts
 
@@ -79,7 +80,7 @@ class Whole(Files):
     def test_long_texts_are_in_blocks_of_their_own(self):
         long = [letter * 200_000 for letter in "abcdefgh"]
         values = sorted([*long, *(f"{letter}{number}" for letter in "abc" for number in range(99))])
-        self.assertGreater(len(list(stored_list.blocks_of(long))), 7)
+        self.assertGreater(len(list(dictionary.blocks_of(long))), 7)
         self.write([Column("a", "a", texts(*values))])
         with contextlib.closing(Store(self.path)) as found:
             listed = found.columns[0].kind.listed

@@ -3,7 +3,7 @@ import sqlite3
 import unittest
 
 from bwtools._sql.lexer import MOST_TOKENS, quoted_name, text_literal, tokens_of
-from bwtools.telling import Refused
+from bwtools._errors import Refused
 
 
 def texts(sql):

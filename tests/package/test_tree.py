@@ -8,12 +8,11 @@ from collections import Counter
 
 import bwtools
 from bwtools._sql.lexer import tokens_of
-from bwtools._sql.parser import RESERVED, Unexpected
-from bwtools._sql.parser import parse
+from bwtools._sql.parser import RESERVED, Unexpected, parse
 from bwtools._sql.statement import Statement
 from bwtools._sql.syntax import children, walk
 from bwtools._sql.tables import Catalog
-from bwtools.telling import Refused
+from bwtools._errors import Refused
 
 from tests import drawn_numbers, drawn_select, selects, support
 from tests.support import Imported

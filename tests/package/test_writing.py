@@ -11,7 +11,7 @@ from unittest import mock
 from bwtools import placing
 from bwtools.loader import encode
 from bwtools.loader.table import Table
-from bwtools.telling import Refused
+from bwtools._errors import Refused
 
 from tests.support import Import, numbers_of, options, table_of
 
@@ -76,7 +76,7 @@ class Tables(unittest.TestCase):
                 Table(str(path), options(), pathlib.Path(name))
 
     def test_what_is_waited_for(self):
-        with mock.patch("bwtools.waiting.Waiting.begin") as begun:
+        with mock.patch("bwtools._progress.Waiting.begin") as begun:
             table_of(b"a\n1\n2\n")
         self.assertEqual([call.args[0] for call in begun.call_args_list],
                          ["bw codes the rows", "its distinct fields are examined"])

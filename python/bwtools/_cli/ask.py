@@ -29,7 +29,7 @@ from __future__ import annotations
 import sys
 from typing import TYPE_CHECKING
 
-from .. import command
+from .. import _errors
 from .asking import ask, split
 from .options import AnswerOptions, add_options, new_parser, options_of
 
@@ -57,4 +57,4 @@ def main() -> int:
         from ..options import parsed
         given = parsed(parser_of(), words)
         words, answering = given.words, options_of(given)
-    return command.status_of(NAME, lambda: ask(answering, *split(words)))
+    return _errors.status_of(NAME, lambda: ask(answering, *split(words)))

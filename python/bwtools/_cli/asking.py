@@ -8,15 +8,14 @@ import sys
 import time
 from typing import Callable, Iterable, Sequence, TextIO, cast
 
-from .. import command
+from .. import _errors
 from .._database import Database, Settings
 from .._output import Writer, writer_of
 from .._result import Result
-from ..failed import failure_of, is_failure
-from ..naming import is_name
+from .._errors import Refused, counted, failure_of, is_failure
+from .._identifiers import is_name
 from .._sql.tables import name_of, open_catalog
-from ..telling import Refused, counted
-from ..waiting import Waiting
+from .._progress import Waiting
 from .options import AnswerOptions
 
 # so many characters of an answer are held until it is whole; a longer one is written as it comes
@@ -107,7 +106,7 @@ class Asking:
             self.ask(statement)
             return 0
         except Refused as refused:
-            print(f"{command.own_name()}: {refused}", file=sys.stderr)
+            print(f"{_errors.own_name()}: {refused}", file=sys.stderr)
             return 3
         except OSError:
             # the answer can't be written, nor the next one
@@ -186,7 +185,7 @@ def tell(told: str) -> None:
 def ask(given: AnswerOptions, tables: Iterable[tuple[str, str]], statement: str | None,
         scheduler: str | None = None) -> int:
     """Runs a statement, or those on standard input. Returns the status."""
-    command.write_utf8()
+    _errors.write_utf8()
     is_terminal = os.isatty(sys.stdout.fileno())
     form = given.form or ("table" if is_terminal else "csv")
     # bw's statistics come while it answers

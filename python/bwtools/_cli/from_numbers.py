@@ -18,7 +18,7 @@ import io
 import os
 import sys
 
-from .. import command, options, pairs
+from .. import _errors, options, pairs
 from .._output import turn_back
 from ..regular import open_regular
 from ..store import Store
@@ -28,7 +28,7 @@ NAME = "bw-from-numbers"
 
 
 def work(given: argparse.Namespace) -> None:
-    command.write_utf8()
+    _errors.write_utf8()
     answer = io.TextIOWrapper(sys.stdin.buffer if sys.stdin else io.BytesIO(), encoding="utf-8",
                               newline="")
     with contextlib.closing(Store(given.columns)) as found:
@@ -52,4 +52,4 @@ def parser_of() -> argparse.ArgumentParser:
 def main() -> int:
     parser = parser_of()
     given = options.parsed(parser, sys.argv[1:])
-    return command.status_of(NAME, lambda: work(given))
+    return _errors.status_of(NAME, lambda: work(given))

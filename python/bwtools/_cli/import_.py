@@ -27,7 +27,7 @@ from __future__ import annotations
 import argparse
 import sys
 
-from .. import command, importing, options
+from .. import _errors, importing, options
 from .options import add_import, new_parser
 
 NAME = "bw-import"
@@ -55,4 +55,4 @@ def main() -> int:
     if not given.table and not given.dry_run and not given.verify or given.table and given.verify:
         parser.error("expected RAW.csv and TABLE.bw, or RAW.csv and --dry-run, or TABLE.bw and "
                      "--verify")
-    return command.status_of(NAME, lambda: work(given))
+    return _errors.status_of(NAME, lambda: work(given))

@@ -20,7 +20,7 @@ from __future__ import annotations
 import argparse
 import sys
 
-from .. import command, importing, options
+from .. import _errors, importing, options
 from .._sql.tables import name_of
 from .asking import ask
 from .options import add_asking, add_loading, new_parser, options_of
@@ -55,6 +55,6 @@ def main() -> int:
     given = options.parsed(parser, sys.argv[2:])
     if name == "load" and not given.folder and not given.dry_run:
         parser.error("expected FOLDER or --dry-run")
-    return command.status_of(NAME, lambda: load(given) if name == "load" else ask(
+    return _errors.status_of(NAME, lambda: load(given) if name == "load" else ask(
         options_of(given), [(name_of(given.folder), given.folder)], given.statement,
         given.scheduler))

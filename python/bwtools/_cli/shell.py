@@ -7,12 +7,11 @@ import pathlib
 import sys
 from typing import TYPE_CHECKING, Callable, Iterable, Iterator
 
-from .. import command
+from .. import _errors
 from .._output import FORMATS
-from ..failed import failure_of, is_failure
-from ..naming import is_name
+from .._errors import Refused, counted, failure_of, is_failure
+from .._identifiers import is_name
 from .._sql.tables import Table
-from ..telling import Refused, counted
 from .statements import Splitter
 
 if TYPE_CHECKING:
@@ -164,7 +163,7 @@ def reported() -> Iterator[None]:
     try:
         yield
     except (Refused, UnicodeError) as refused:
-        print(f"{command.own_name()}: {refused}", file=sys.stderr)
+        print(f"{_errors.own_name()}: {refused}", file=sys.stderr)
     except Exception as error:
         if not is_failure(error):
             raise

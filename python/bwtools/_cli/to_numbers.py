@@ -15,7 +15,7 @@ import argparse
 import pathlib
 import sys
 
-from .. import command, inputs, options, placing, store
+from .. import _errors, inputs, options, placing, store
 from ..loader.table import Table, write_numbers
 from .options import new_parser
 
@@ -50,4 +50,4 @@ def parser_of() -> argparse.ArgumentParser:
 def main() -> int:
     parser = parser_of()
     given = options.parsed(parser, sys.argv[1:])
-    return command.status_of(NAME, lambda: work(given))
+    return _errors.status_of(NAME, lambda: work(given))

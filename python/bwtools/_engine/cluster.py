@@ -12,11 +12,10 @@ import pickle
 import sys
 from typing import Any, Callable, Iterator, Sequence
 
-from .. import command
-from ..failed import Failed
+from .. import _errors
+from .._errors import Failed, Refused
 from ..shards import Reply, ask_shard, is_of_statement
 from ..store import TableFile
-from ..telling import Refused
 from .executor import Part
 
 MISSING = "Dask's distributed isn't installed for {} (python3-distributed of Debian)"
@@ -117,7 +116,7 @@ class Scheduled:
 
     def answers(self, statements: Sequence[str]) -> Iterator[bytes]:
         """Yields the result of each statement on each file, statement by statement."""
-        program = command.whole_path()
+        program = _errors.whole_path()
         calls = [(program, path, record, self.columns, self.options, statement)
                  for statement in statements for path, record in self.files]
         for call, reply in zip(calls, self.cluster.replies(calls)):

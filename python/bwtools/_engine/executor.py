@@ -9,14 +9,13 @@ import os
 from typing import (TYPE_CHECKING, Any, BinaryIO, Callable, Iterable, Iterator, Protocol, Sequence,
                     TypeVar, Union)
 
-from ..failed import FILES, MEMORY, Failed
-from ..telling import Refused
+from .._errors import FILES, MEMORY, Failed, Refused
 from .process import AT_ONCE, Query, Session
 
 if TYPE_CHECKING:
     from array import array
 
-    from ..column import Column
+    from .._types.base import Column
 
 COUNT = "COUNT(*)"
 # the bytes of a statement that bw takes, without its end

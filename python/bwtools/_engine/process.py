@@ -14,9 +14,8 @@ import signal
 from _weakref import proxy
 from typing import Any, BinaryIO, Iterator, NoReturn, Sequence, Tuple
 
-from .. import command
-from ..failed import Failed
-from ..telling import Refused
+from .. import _errors
+from .._errors import Failed, Refused
 
 AT_ONCE = 1 << 16
 # signals that Python ignores, and other programs don't
@@ -158,7 +157,7 @@ class Query(Process):
 
     def __init__(self, table: BinaryIO, statement: str, options: Sequence[str] = ()) -> None:
         # bw reads the file that was compared, even if its path has another one by now
-        super().__init__([command.program(), "query", *options, "/dev/fd/0", statement], table, 0)
+        super().__init__([_errors.program(), "query", *options, "/dev/fd/0", statement], table, 0)
 
     def result(self) -> tuple[bytes, str]:
         """Waits for its end. Returns its result, and what it printed on standard error, which is
@@ -247,7 +246,7 @@ class Session(Process):
     is_busy = False
 
     def __init__(self, table: BinaryIO, options: Sequence[str] = ()) -> None:
-        super().__init__([command.program(), "session", *options, "/dev/fd/3"], table, 1)
+        super().__init__([_errors.program(), "session", *options, "/dev/fd/3"], table, 1)
         self.stdin: io.FileIO = self.ends[0]
         self.stdout: io.FileIO = self.ends[1]
         self.stderr: io.FileIO = self.ends[2]

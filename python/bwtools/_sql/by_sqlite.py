@@ -8,9 +8,8 @@ from typing import Callable, Iterable, Mapping
 from .._aggregation import NeedsExact
 from .._engine.executor import Engine
 from .._result import Result, ValueRows
-from ..failed import Failed, failure_of, is_of_system
-from ..telling import Refused
-from ..waiting import Waiting
+from .._errors import Failed, Refused, failure_of, is_of_system
+from .._progress import Waiting
 from .listing import Listing
 from .prepare import reads_of, told
 from .pushdown import pushed

@@ -9,7 +9,7 @@ import math
 from typing import Mapping, Optional, Sequence
 
 from .._aggregation import Aggregate
-from ..column import Column
+from .._types.base import Column
 
 # Python: for each row, for each further column of a group, and for each aggregate that is added;
 # and for each group, and each aggregate of one

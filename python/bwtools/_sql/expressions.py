@@ -4,11 +4,11 @@ from __future__ import annotations
 
 from typing import Any, Iterator
 
-from .. import _aggregation, kinds
+from .. import _aggregation
+from .._types import kinds
 from .._result import EXACT_DIGITS
-from ..column import Column
-from ..kind import GREATEST, Kind
-from ..kinds import undressed
+from .._types.base import GREATEST, Column, Kind
+from .._types.kinds import undressed
 from .lexer import MOST_SHORT, NUMBER, WORD
 from .syntax import (Between, Call, Case, ColumnName, Comparison, InList, InQuery, Literal, Node,
                      NullTest, Operation, Output, Subquery, Unary)

@@ -17,11 +17,9 @@ from .._aggregation import (AGGREGATES, NULL_NUMBER, Aggregate, Found, Key, TooM
                             values_for_sqlite, values_of)
 from .._engine.executor import COUNT, Engine, Outside, Totals, added, both, names_of, select
 from .._result import Limits, Value, ValueRows, affinity, is_long
-from ..column import Column
-from ..failed import Failed
-from ..kind import Kind
-from ..kinds import undressed
-from ..telling import Refused
+from .._types.base import Column, Kind
+from .._errors import Failed, Refused
+from .._types.kinds import undressed
 from .cost import groups_at_most, is_sqlite_quicker
 from .lexer import quoted_name
 from .pushdown import condition_of, direct_column

@@ -10,9 +10,9 @@ from typing import Any, Callable, Iterator, Sequence
 from .._aggregation import Functions
 from .._engine.executor import Engine
 from .._result import Numbers, integers_of, is_long
-from ..column import Column
-from ..failed import Failed
-from ..kinds import undressed
+from .._types.base import Column
+from .._errors import Failed
+from .._types.kinds import undressed
 from .lexer import quoted_name
 from .prepare import Guard, declare, declared
 from .tables import Catalog, Table

@@ -12,11 +12,10 @@ from collections.abc import Mapping
 from typing import TYPE_CHECKING, Any, Sequence, Union
 
 from .._result import INTEGER, MOMENTS, affinity, is_long
-from ..column import Column
-from ..kind import GREATEST, LEAST
-from ..kinds import Styled, undressed
-from ..stored_list import is_unicode
-from ..telling import Refused
+from .._types.base import GREATEST, LEAST, Column
+from .._types.kinds import Styled, undressed
+from .._types.dictionary import is_unicode
+from .._errors import Refused
 from .lexer import BLOB, MOST_SHORT, NUMBER, TEXT, WORD, text_literal
 from .syntax import ColumnName, Literal, Node, Unary
 

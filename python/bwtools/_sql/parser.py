@@ -4,7 +4,7 @@ from __future__ import annotations
 
 from typing import Callable, Optional, Sequence
 
-from ..telling import Refused
+from .._errors import Refused
 from .syntax import (IN, Between, Call, Case, Cast, Collate, ColumnName, CommonQuery, Comparison,
                      InList, InQuery, Item, Like, Literal, Name, NestedSources, Node, NullTest,
                      Operation, OrderTerm, Query, QuerySource, Row, Select, Source, Subquery,

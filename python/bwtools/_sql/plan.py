@@ -8,7 +8,7 @@ from typing import TYPE_CHECKING, Callable, Optional, Sequence
 from .._aggregation import AGGREGATES
 from .._engine.executor import Engine, Outside
 from .._result import Result
-from ..column import Column
+from .._types.base import Column
 from .pushdown import single
 from .statement import Statement
 from .syntax import Call, walk

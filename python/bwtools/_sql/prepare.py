@@ -10,11 +10,10 @@ from typing import Any, Iterator, Sequence
 
 from .. import _aggregation
 from .._result import INTEGER, affinity, is_long
-from ..column import Column
-from ..naming import RESERVED
-from ..telling import Refused
-from .lexer import JOINS, MOMENTS, MOST_SHOWN, Token, quoted_name, short
-from .lexer import RESERVED as NO_NAMES
+from .._types.base import Column
+from .._identifiers import RESERVED
+from .._errors import Refused
+from .lexer import JOINS, MOMENTS, MOST_SHOWN, RESERVED as NO_NAMES, Token, quoted_name, short
 from .resolve import HIDDEN
 from .syntax import Call, ColumnName, Node, Query, Row, Select, Window, walk
 from .tables import Catalog, missing

@@ -14,10 +14,9 @@ from typing import TYPE_CHECKING, Any, Callable, Iterable, Sequence, Union
 
 from .. import _result as values
 from .._engine.executor import Outside
-from ..column import Column
-from ..kind import GREATEST, LEAST
-from ..kinds import undressed
-from ..stored_list import StoredList
+from .._types.base import GREATEST, LEAST, Column
+from .._types.kinds import undressed
+from .._types.dictionary import StoredList
 from .lexer import TEXT
 from .literals import Constant, constant_of
 from .syntax import (Between, ColumnName, Comparison, InList, InQuery, Like, Literal, Node,

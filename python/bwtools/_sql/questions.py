@@ -7,8 +7,7 @@ from typing import Sequence
 from .._aggregation import AGGREGATES, Aggregate, values_of
 from .._engine.executor import Engine, Outside, select as select_text
 from .._result import Limits, NumberRows, SortKey, ValueRows, WantedRows
-from ..column import Column
-from ..kind import Kind
+from .._types.base import Column, Kind
 from .lexer import NUMBER, TEXT
 from .pushdown import condition_of, direct_column
 from .resolve import place_of

@@ -5,7 +5,7 @@ from __future__ import annotations
 
 from typing import Sequence
 
-from ..telling import Refused
+from .._errors import Refused
 from .expressions import meaning
 from .syntax import (ColumnName, Common, FromItem, Item, Literal, Name, NestedSources, Node,
                      Output, Query, QuerySource, Scope, Select, Source, TableSource, Unary, bare,

@@ -3,11 +3,10 @@ from __future__ import annotations
 
 from typing import Any, Mapping, Sequence, Union
 
-from ..telling import Refused
+from .._errors import Refused
 from .lexer import END, Token, tokens_of
 from .literals import bind, evaluate
-from .parser import MOST_DEPTH, Unexpected
-from .parser import parse
+from .parser import MOST_DEPTH, Unexpected, parse
 from .prepare import Emptied
 from .render import Renderer
 from .resolve import resolve

@@ -6,8 +6,7 @@ from __future__ import annotations
 
 from typing import TYPE_CHECKING, Iterable, Iterator, Optional, Sequence, Tuple
 
-from ..column import Column
-from ..kind import Kind
+from .._types.base import Column, Kind
 from .tables import Table
 
 if TYPE_CHECKING:

@@ -5,12 +5,12 @@ import contextlib
 import os
 from typing import BinaryIO, Iterable, Sequence
 
-from ..column import Column
-from ..naming import name_like
+from .._types.base import Column
+from .._identifiers import name_like
 from ..pairs import are_columns_of, is_of, open_pair, refuse_changed, watch
 from ..regular import Watched, open_regular
 from ..store import TableFile
-from ..telling import Refused, shown
+from .._errors import Refused, shown
 
 
 class TablePart:

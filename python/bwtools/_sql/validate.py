@@ -9,12 +9,10 @@ from typing import Iterable, Iterator, Sequence
 
 from .. import _aggregation
 from .._result import MOMENTS, TEXT, affinity, is_long, plain_of
-from ..column import Column
-from ..kind import Literal as Value
-from ..naming import option
-from ..telling import Refused
-from .lexer import TEXT as TEXT_TOKEN
-from .lexer import short
+from .._types.base import Column, Literal as Value
+from .._identifiers import option
+from .._errors import Refused
+from .lexer import TEXT as TEXT_TOKEN, short
 from .literals import Constant, are_same, constant_of, form_of
 from .expressions import choices, column_of, exact_of, meaning
 from .resolve import place_of

@@ -4,9 +4,8 @@ from __future__ import annotations
 from dataclasses import dataclass
 from typing import ClassVar, Sequence
 
-from ..kinds.clocks import Clocks
-from ..moments import CLOCK_LINES, DATE_STARTS, moment_of
-from ..naming import option
+from .._types.temporal import CLOCK_LINES, DATE_STARTS, Clocks, moment_of
+from .._identifiers import option
 from .fields import Fields
 from .judge import matching, starting
 from .spellings import spellings

@@ -5,11 +5,9 @@ import re
 from dataclasses import dataclass
 from typing import ClassVar, Optional, Sequence
 
-from ..kind import GREATEST, LEAST
-from ..kinds.dates import Dates
-from ..kinds.times import Times
-from ..moments import DATE_LINES, DATE_STARTS, ISO_DATE, moment_of
-from ..naming import option
+from .._types.base import GREATEST, LEAST
+from .._types.temporal import DATE_LINES, DATE_STARTS, ISO_DATE, Dates, Times, moment_of
+from .._identifiers import option
 from .fields import Fields
 from .judge import matching, starting
 from .spellings import Spellings, spellings

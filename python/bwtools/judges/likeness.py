@@ -7,7 +7,7 @@ import re
 from dataclasses import dataclass
 from typing import Callable, ClassVar, Iterable, Sequence
 
-from ..moments import DATE_LINES
+from .._types.temporal import DATE_LINES
 from .fields import Fields
 from .verdict import Decision, Verdict
 

@@ -7,19 +7,14 @@ import math
 from dataclasses import dataclass
 from typing import ClassVar, Optional, Sequence, Union
 
-from ..kind import GREATEST, LEAST
-from ..kind import Kind
-from ..kinds.decimals import Decimals
-from ..kinds.floats import Floats
-from ..kinds.styled import Numbers, Styled
-from ..kinds.whole import Whole
-from ..naming import option
-from ..numerals import SIMPLE, STARTS, WHOLE, ZEROS, is_number, like_number
+from .._types.base import GREATEST, LEAST, Kind, Numbers, Styled, Whole
+from .._types.numbers import Decimals, Floats
+from .._identifiers import option
+from .._types.number_format import SIMPLE, STARTS, WHOLE, ZEROS, Style, is_number, like_number
 from ..rounding import SHORT, Rounding, change_in_double
 from ..spans import MOST_DIGITS, Spans
-from ..style import Style
 from ..wishes import BLANKS
-from ..telling import shown
+from .._errors import shown
 from .fields import Fields
 from .judge import matching, starting
 from .survey import Survey

@@ -4,7 +4,7 @@ from __future__ import annotations
 from dataclasses import dataclass, field
 from typing import Iterable, Optional, Union
 
-from ..moments import ISO_DATE, Moment, moment_of
+from .._types.temporal import ISO_DATE, Moment, moment_of
 from .fields import Fields
 
 

@@ -5,8 +5,7 @@ from __future__ import annotations
 from dataclasses import dataclass, field
 from typing import Sequence
 
-from ..numerals import CODE, LAKHS, PHONE, SIMPLE, ZEROS, marks_of, parts_of
-from ..style import Style
+from .._types.number_format import CODE, LAKHS, PHONE, SIMPLE, ZEROS, Style, marks_of, parts_of
 
 # a telephone number has so many digits
 LEAST_DIGITS = 7

@@ -4,7 +4,7 @@ from __future__ import annotations
 from dataclasses import dataclass
 from typing import ClassVar, Sequence
 
-from ..kinds.truths import TRUTH_OF, TRUTHS, Truths
+from .._types.numbers import TRUTHS, TRUTH_OF, Truths
 from .fields import Fields
 from .verdict import Decision, Verdict
 

@@ -4,10 +4,11 @@ from __future__ import annotations
 from dataclasses import dataclass
 from typing import TYPE_CHECKING, Optional, Union
 
-from ..kind import Kind
-from ..kinds import Floats, Ranked, Styled, undressed
+from .._types.base import Kind
+from .._types.kinds import Styled, undressed
+from .._types.numbers import Floats, Ranked
 from ..rounding import Rounding, change_in_double
-from ..style import DEFAULT
+from .._types.number_format import DEFAULT
 
 if TYPE_CHECKING:
     import decimal

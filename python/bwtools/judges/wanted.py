@@ -4,9 +4,7 @@ from __future__ import annotations
 from dataclasses import dataclass
 from typing import ClassVar, Sequence
 
-from ..kinds.formats import DateFormat, format_of
-from ..kinds.times import Times
-from ..moments import MOST_DIGITS, read_moment
+from .._types.temporal import MOST_DIGITS, DateFormat, Times, format_of, read_moment
 from .dates import kind_that_fits
 from .fields import Fields
 from .verdict import Decision, Verdict

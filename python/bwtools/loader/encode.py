@@ -13,12 +13,12 @@ import sys
 from dataclasses import dataclass
 from typing import Any, Collection, Optional, Sequence
 
-from .. import command, pairs, processes
+from .. import _errors, pairs, processes
 from ..signs import Signs
 from ..source import Source
-from ..table_limits import MOST_BYTES, MOST_ROWS
-from ..telling import Refused
-from ..waiting import Waiting
+from .._identifiers import MOST_BYTES, MOST_ROWS
+from .._errors import Refused
+from .._progress import Waiting
 from .dictionary import ByteFile, Dictionary, breaks_in, read_fields
 from .feed import DecodedFeed, Feed, FileFeed, Index, feed_of, heading_of, size_of
 
@@ -65,7 +65,7 @@ def encode(feed: Feed, table: pathlib.Path, fields: pathlib.Path, fills: bool) -
     isn't one of records of one length."""
     reading, writing = (feed.whole.fileno(), None) if feed.whole else os.pipe()
     words = ["encode", *feed.words, *["--fill"] * fills, f"/dev/fd/{reading}", table, fields]
-    with subprocess.Popen([command.program(), *map(str, words)], stdin=subprocess.DEVNULL,
+    with subprocess.Popen([_errors.program(), *map(str, words)], stdin=subprocess.DEVNULL,
                           stdout=subprocess.DEVNULL, stderr=subprocess.PIPE,
                           restore_signals=False, pass_fds=[reading]) as process:
         try:
@@ -98,13 +98,13 @@ def check(name: str, status: int, told: str) -> None:
     if status:
         if not told:
             print(f"bw {name} ended with status {status}", file=sys.stderr)
-        raise command.Ended(status if status > 0 else 128 - status)
+        raise _errors.Ended(status if status > 0 else 128 - status)
 
 
 def output_of(words: Sequence[Any]) -> bytes:
     """Returns what a command of bw prints."""
     # a file past the system's limit is then an error of writing, and no signal
-    done = subprocess.run([command.program(), *map(str, words)], stdin=subprocess.DEVNULL,
+    done = subprocess.run([_errors.program(), *map(str, words)], stdin=subprocess.DEVNULL,
                           capture_output=True, restore_signals=False, check=False)
     check(str(words[0]), done.returncode, done.stderr.decode("utf-8", "replace"))
     return done.stdout

@@ -15,7 +15,7 @@ from ..comments import reader_of
 from ..inputs import Positioned
 from ..signs import Signs
 from ..source import Source
-from ..telling import Refused
+from .._errors import Refused
 from .dictionary import breaks_in
 
 BYTES_AT_ONCE, CHARACTERS_AT_ONCE = 1 << 20, 1 << 18

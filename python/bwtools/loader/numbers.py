@@ -12,8 +12,10 @@ from ..floating import numbered_doubles
 from ..judges.fields import Fields, Part
 from ..judges.verdict import Decision
 from ..plain import Numbered, values_of
-from ..kind import Kind
-from ..kinds import Decimals, Floats, Ranked, Times, Whole, undressed
+from .._types.base import Kind
+from .._types.kinds import Whole, undressed
+from .._types.numbers import Decimals, Floats, Ranked
+from .._types.temporal import Times
 from ..rounding import change_in_double
 from ..textual import Sorted
 from ..wishes import BLANKS

@@ -3,10 +3,10 @@ from __future__ import annotations
 
 from typing import TYPE_CHECKING, Iterator, Sequence
 
-from ..column import Column
-from ..kinds import undressed
-from ..naming import option
-from ..telling import counted, shown
+from .._types.base import Column
+from .._types.kinds import undressed
+from .._identifiers import option
+from .._errors import counted, shown
 from ..wishes import NULLS
 
 if TYPE_CHECKING:

@@ -11,23 +11,21 @@ from array import array
 from dataclasses import dataclass
 from typing import BinaryIO, Iterable, Iterator, List, Optional, Sequence
 
-from .. import command
-from ..column import Column
+from .. import _errors
+from .._types.base import GREATEST, Column
 from ..deciding import decide
 from ..judges.fields import Fields
 from ..judges.verdict import Decision
-from ..kind import GREATEST
-from ..kinds import Whole
-from ..naming import names_of
-from ..numerals import SIMPLE
+from .._types.kinds import Whole
+from .._identifiers import MOST_BYTES, MOST_CHARACTERS, MOST_ROWS, names_of
+from .._types.number_format import SIMPLE
 from ..pairs import record_of
 from ..plain import Plain
 from ..source import Source
 from ..store import TableFile
-from ..table_limits import MOST_BYTES, MOST_CHARACTERS, MOST_ROWS
-from ..telling import Refused, counted
+from .._errors import Refused, counted
 from ..textual import sorted_texts
-from ..waiting import Waiting
+from .._progress import Waiting
 from ..wishes import BLANKS, Wishes, wishes_of
 from . import encode
 from .dictionary import ByteFile, Dictionary, merge, texts_of
@@ -293,7 +291,7 @@ def write_numbers(table: Table, folder: pathlib.Path, out: pathlib.Path) -> None
 
 def dump(path: pathlib.Path, out: BinaryIO, null: bytes) -> None:
     """Writes the rows of a table file, with a word for null."""
-    with subprocess.Popen([command.program(), "dump", str(path)], stdin=subprocess.DEVNULL,
+    with subprocess.Popen([_errors.program(), "dump", str(path)], stdin=subprocess.DEVNULL,
                           stdout=subprocess.PIPE, restore_signals=False) as process:
         assert process.stdout is not None
         process.stdout.readline()

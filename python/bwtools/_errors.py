@@ -1,14 +1,34 @@
-"""What the programs share as commands: the program that they call, and how they end."""
+"""What messages are made of, how programs end, and the failures of bw and of the system."""
 from __future__ import annotations
 
 import contextlib
+import errno
 import os
 import signal
 import sys
 from typing import Any, Callable, NoReturn, Sequence
 
-from .naming import is_name, name_like
-from .telling import Refused, shown
+from ._identifiers import is_name, name_like
+
+
+# What messages are made of: the refusal, counts, and texts of the input.
+
+
+class Refused(Exception):
+    """An input that is rejected, and why."""
+
+
+def counted(number: int, thing: str) -> str:
+    """Returns a number of things, such as `1 row` or `2,000 rows`."""
+    return f"{number:,} {thing}{'' if number == 1 else 's'}"
+
+
+def shown(text: str) -> str:
+    """Returns a text for a message: its first characters, in quotes and printable."""
+    return repr(text if len(text) <= 40 else text[:37] + "...")
+
+
+# What the programs share as commands: the program that they call, and how they end.
 
 
 class Ended(Exception):
@@ -161,8 +181,75 @@ def status_of(name: str, work: Callable[[], int | None]) -> int:
         return 5
     except Exception as error:
         # it imports this module
-        from .failed import failure_of, is_failure
         if not is_failure(error):
             raise
         drop_output()
         return failure_of(error).report()
+
+
+# The failure of bw, or of the system: nothing is wrong with the statement.
+
+# the statuses of bw: of a file that can't be read or written, and of refused memory
+FILES, MEMORY = 5, 6
+# how error 701 begins
+UNREAD = "bw: 701 "
+MEMORIES = ("out of memory", "can't start new thread", "failed to map segment",
+            "cannot allocate memory", "Cannot allocate memory")
+
+# what SQLite reports of a disk, or of the folder of its temporary files
+DISKS = ("database or disk is full", "disk I/O error", "unable to open database file")
+
+
+class Failed(Exception):
+    """Why bw can't answer, what it printed before, and the status to exit with."""
+
+    def __init__(self, why: str, told: str = "", status: int = FILES) -> None:
+        super().__init__(why)
+        self.told, self.status = told, status
+
+    def report(self) -> int:
+        """Prints it on standard error. Returns the status."""
+        print(self.told, end="", file=sys.stderr)
+        if str(self):
+            print(f"{own_name()}: {self}", file=sys.stderr)
+        return self.status
+
+    def is_unread(self) -> bool:
+        """Returns whether it is an input that bw couldn't read, or that changed meanwhile."""
+        return UNREAD in f"{self.told}{self}"
+
+    def of(self, name: str) -> Failed:
+        """Returns the failure with the name of what it is about."""
+        return Failed(f"{name}: {self.told.strip() or str(self)}", status=self.status)
+
+
+def failure_of(error: BaseException) -> Failed:
+    """Returns the failure that an exception of Python, of the system or of SQLite is: refused
+    memory, or a file that can't be read or written."""
+    if isinstance(error, Failed):
+        return error
+    if isinstance(error, OSError):
+        where = f"{error.filename}: " if error.filename else ""
+        is_memory = error.errno == errno.ENOMEM
+        return Failed(f"{where}{error.strerror or error}", status=MEMORY if is_memory else FILES)
+    if is_of_memory(error):
+        return Failed("out of memory", status=MEMORY)
+    return Failed(f"SQLite reports: {error}")
+
+
+def is_of_memory(error: BaseException) -> bool:
+    """Returns whether an exception reports refused memory. SQLite, a thread and an import do it in
+    words alone."""
+    told = isinstance(error, (RuntimeError, ImportError)) or type(error).__module__ == "sqlite3"
+    return isinstance(error, MemoryError) or told and any(each in str(error) for each in MEMORIES)
+
+
+def is_of_system(error: BaseException) -> bool:
+    """Returns whether an exception of SQLite is none of its statement."""
+    return is_of_memory(error) or any(each in str(error) for each in DISKS)
+
+
+def is_failure(error: BaseException) -> bool:
+    """Returns whether an exception is a failure, and no mistake of this package."""
+    return isinstance(error, (Failed, OSError)) or is_of_memory(error) or \
+        type(error).__module__ == "sqlite3"

@@ -11,7 +11,6 @@ from typing import TYPE_CHECKING, Iterator
 if TYPE_CHECKING:
     import threading
 
-
 # after how many seconds the line is shown, and how often it is updated
 FIRST, EVERY = 1.0, 0.2
 

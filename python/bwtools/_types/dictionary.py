@@ -1,16 +1,60 @@
-"""A list of values in order, of which each has its place as its code: in a columns file, from which
-a block of values is read when one of them is needed."""
+"""Texts as their places in a sorted list: in memory, in a columns file, or in blocks."""
 from __future__ import annotations
 
+import bisect
 import contextlib
 import itertools
 import operator
 import sqlite3
 import zlib
-from typing import Any, Iterable, Iterator, Sequence
+from typing import Any, Callable, ClassVar, Iterable, Iterator, Sequence
 
-from .listed import Place
-from .telling import Refused, shown
+from .._errors import Refused, shown
+from .base import Kind, Listed, Literal, Place, Settings, Valued
+
+
+# Codes of distinct texts.
+
+
+class Codes(dict[str, int]):
+    """A code for each distinct text, in the order in which they were met."""
+
+    def __missing__(self, text: str) -> int:
+        code = self[text] = len(self)
+        return code
+
+
+# A list of values in order, of which each has its place as its code: in memory, while a file is
+# imported.
+
+
+class SortedList:
+    """A list of texts, or of doubles, in strictly ascending order: a `listed.Listed`."""
+
+    def __init__(self, values: Sequence[Any]) -> None:
+        self.all = values
+
+    def __len__(self) -> int:
+        return len(self.all)
+
+    def __iter__(self) -> Iterator[Any]:
+        return iter(self.all)
+
+    def place(self, value: str | float) -> Place:
+        """Returns the greatest code whose value is at most this one, or -1, and whether the values
+        are equal."""
+        code = bisect.bisect_right(self.all, value) - 1
+        return code, code >= 0 and bool(self.all[code] == value)
+
+    def values(self, codes: Sequence[int]) -> list[Any]:
+        """Returns the values of codes. Raises IndexError for a code that there isn't."""
+        if codes and min(codes) < 0:
+            raise IndexError
+        return list(map(self.all.__getitem__, codes))
+
+
+# A list of values in order, of which each has its place as its code: in a columns file, from
+# which a block of values is read when one of them is needed.
 
 # a block has so many values, or fewer long ones: it ends with the one that makes it so long
 VALUES_A_BLOCK, LENGTH_A_BLOCK = 1 << 9, 1 << 17
@@ -108,7 +152,7 @@ class StoredList:
                 yield code, self.checked(code, data, found)
         except sqlite3.Error as error:
             # few files are damaged
-            from .failed import MEMORY, failure_of
+            from .._errors import MEMORY, failure_of
             if failure_of(error).status == MEMORY:
                 raise
             raise self.broken(0, str(error)) from None
@@ -216,3 +260,70 @@ def is_unicode(text: str) -> bool:
         return True
     except UnicodeEncodeError:
         return False
+
+
+# Distinct texts that are read from elsewhere.
+
+
+class TextBlocks:
+    """Distinct texts in order, as bytes of UTF-8, which are read many at a time and are best read
+    in order: any other use reads all of them."""
+
+    def __init__(self, count: int, blocks: Callable[[], Iterable[list[bytes]]]) -> None:
+        self.count, self.blocks = count, blocks
+
+    def __len__(self) -> int:
+        return self.count
+
+    def __iter__(self) -> Iterator[str]:
+        return map(bytes.decode, self.encoded())
+
+    def encoded(self) -> Iterator[bytes]:
+        """Yields the texts as bytes."""
+        return itertools.chain.from_iterable(self.blocks())
+
+    def place(self, value: str | float) -> Place:
+        return SortedList(list(self)).place(value)
+
+    def values(self, codes: Sequence[int]) -> list[str]:
+        return SortedList(list(self)).values(codes)
+
+
+# Texts, as their places in a list that is sorted by code points.
+
+
+class Texts(Valued):
+    name: ClassVar[str] = "texts"
+    plural: ClassVar[str] = "texts"
+    example: ClassVar[str] = "'this'"
+    is_summable: ClassVar[bool] = False
+
+    def __init__(self, listed: Listed) -> None:
+        self.listed = listed
+
+    def number(self, text: str) -> int | None:
+        place, is_exact = self.listed.place(text)
+        return place if is_exact else None
+
+    def text(self, number: int) -> str:
+        return self.spell([number])[0]
+
+    def total(self, number: int) -> str:
+        raise ValueError
+
+    def spell(self, numbers: Sequence[int]) -> list[str]:
+        return list(map(str, self.listed.values(numbers)))
+
+    def place(self, literal: Literal) -> Place | None:
+        return self.listed.place(literal) if isinstance(literal, str) else None
+
+    def settings(self) -> Settings:
+        return {}
+
+    def alike(self, other: Kind) -> bool:
+        if not isinstance(other, Texts) or len(self.listed) != len(other.listed):
+            return False
+        return self.listed is other.listed or all(map(operator.eq, self.listed, other.listed))
+
+    def told(self) -> str:
+        return f"texts as places among {len(self.listed)}"

@@ -1,7 +1,10 @@
-"""The names of tables and columns."""
+"""The names of tables and columns, and the limits of a table."""
 from __future__ import annotations
 
 import re
+
+
+# The names of tables and columns.
 
 RESERVED = set("AND BETWEEN COUNT FALSE FROM IN IS MAX MIN NOT NULL OR SELECT SUM TRUE UNKNOWN "
                "WHERE".split())
@@ -54,3 +57,10 @@ def option(name: str, value: str) -> str:
     # a comma may follow
     quoted = f"'{value}'" if quoted == value and value.endswith(",") else quoted
     return f"{name}{'=' if value.startswith('-') else ' '}{quoted}"
+
+
+# The limits of one load of bw, and of a field that is imported.
+
+MOST_COLUMNS, MOST_ROWS, MOST_BYTES = 64, 1 << 24, 1 << 30
+# the characters of a field
+MOST_CHARACTERS = 1 << 20

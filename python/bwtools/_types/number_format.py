@@ -1,13 +1,15 @@
-"""How numbers are spelled: their digits and signs, and what is written around them.
-
-A number in *plain spelling* has an optional sign, digits with at most one point, and an optional
-power of ten, such as -12.50 or 1e-3. A style adds what people write around it: another decimal
-sign, signs between thousands, a currency or a unit, and brackets for negative numbers."""
+"""Numbers as texts: their digits and signs, and the style in which a column prints them."""
 from __future__ import annotations
 
 import functools
 import re
 from typing import NamedTuple
+
+
+# How numbers are spelled: their digits and signs, and what is written around them. A number in
+# *plain spelling* has an optional sign, digits with at most one point, and an optional power of
+# ten, such as -12.50 or 1e-3. A style adds what people write around it: another decimal sign,
+# signs between thousands, a currency or a unit, and brackets for negative numbers.
 
 PLAIN = re.compile(r"[+-]?(?:[0-9]+\.?[0-9]*|\.[0-9]+)(?:[eE][+-]?[0-9]{1,6})?")
 CURRENCIES = "$\u00a2\u00a3\u00a4\u00a5\u20a0-\u20cf"
@@ -172,3 +174,55 @@ def scaled(plain: str, digits: int) -> int | None:
         return number * power_of_ten(shift)
     found, rest = divmod(number, power_of_ten(-shift))
     return None if rest else found
+
+
+# The style that all numbers of a column share.
+
+
+class Style(NamedTuple):
+    """What is written around and between the digits of a column's numbers."""
+    mark: str = "."
+    grouping: str = ""
+    prefix: str = ""
+    suffix: str = ""
+    brackets: int = 0
+
+    def bare(self, text: str) -> str | None:
+        """Returns the plain spelling of a text that is a number in this style, or in it without its
+        unit; None for another."""
+        if self == DEFAULT and PLAIN.fullmatch(text):
+            return text
+        found = parts_of(text)
+        if found is None or not {found.prefix.strip()} <= {"", self.prefix.strip()} or \
+                not {found.suffix.strip()} <= {"", self.suffix.strip()}:
+            return None
+        body, between = found.body, self.grouping[:1]
+        if between and between in body:
+            if not is_grouped(body.partition(self.mark)[0], self.grouping):
+                return None
+            body = body.replace(between, "")
+        plain = f"{found.sign}{body.replace(self.mark, '.')}{found.power}"
+        return plain if PLAIN.fullmatch(plain) else None
+
+    def dressed(self, plain: str) -> str:
+        """Returns a plain spelling in this style."""
+        is_negative, digits = plain[:1] == "-", plain.lstrip("+-")
+        if self.grouping and "e" not in digits:
+            whole, point, part = digits.partition(".")
+            whole = grouped(whole or "0", self.grouping)
+            digits = f"{whole}{self.mark}{part}" if point else whole
+        elif self.mark != ".":
+            digits = digits.replace(".", self.mark)
+        text = f"{self.prefix}{digits}{self.suffix}"
+        return text if not is_negative else f"({text})" if self.brackets else f"-{text}"
+
+    def told(self) -> str:
+        """Returns what the style adds, for a report."""
+        found = [f"{affix.strip()!r}" for affix in (self.prefix, self.suffix) if affix]
+        lakhs = " and lakhs" if self.grouping == LAKHS else ""
+        found += [f"{self.grouping[0]!r} between thousands{lakhs}"] if self.grouping else []
+        found += [f"{self.mark!r} as the decimal sign"] if self.mark != "." else []
+        return ", ".join([*found, *(["brackets for negative"] if self.brackets else [])])
+
+
+DEFAULT = Style()

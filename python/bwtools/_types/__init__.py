@@ -1,0 +1,1 @@
+"""The kinds of columns: what their fields are as whole numbers."""
