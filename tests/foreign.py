@@ -25,9 +25,8 @@ from typing import Iterator, Sequence
 
 import tests  # noqa: F401  finds bwtools
 from bwtools.loader.table import Table
-from bwtools.options import add_options, parsed
+from bwtools._inference.options import BLANKS, add_options, parsed
 from bwtools._errors import Refused, shown
-from bwtools.wishes import BLANKS
 from tests.support import ROOT, columns_in
 
 SUITES = ("bookworm", "trixie", "sid")

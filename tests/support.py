@@ -26,7 +26,7 @@ from typing import Any, Callable, Iterable, NamedTuple, Sequence, TypeVar
 import bwtools
 from bwtools import importing
 from bwtools._types import kinds
-from bwtools.options import add_options, parsed
+from bwtools._inference.options import add_options, parsed
 from bwtools._cli import import_
 from bwtools.loader.table import Table, write_numbers
 from bwtools._types.dictionary import SortedList

@@ -13,7 +13,7 @@ import sqlite3
 from bwtools import store
 from bwtools._cli import to_numbers
 from bwtools._output import turn_back
-from bwtools.options import parsed
+from bwtools._inference.options import parsed
 
 from tests import drawn, support
 from tests.support import bw, tool

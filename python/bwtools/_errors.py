@@ -194,7 +194,9 @@ FILES, MEMORY = 5, 6
 # how error 701 begins
 UNREAD = "bw: 701 "
 MEMORIES = ("out of memory", "can't start new thread", "failed to map segment",
-            "cannot allocate memory", "Cannot allocate memory")
+            "cannot allocate memory", "Cannot allocate memory",
+            # of Python, which reads a module
+            "error return without exception set")
 
 # what SQLite reports of a disk, or of the folder of its temporary files
 DISKS = ("database or disk is full", "disk I/O error", "unable to open database file")
@@ -240,7 +242,8 @@ def failure_of(error: BaseException) -> Failed:
 def is_of_memory(error: BaseException) -> bool:
     """Returns whether an exception reports refused memory. SQLite, a thread and an import do it in
     words alone."""
-    told = isinstance(error, (RuntimeError, ImportError)) or type(error).__module__ == "sqlite3"
+    told = isinstance(error, (RuntimeError, ImportError, SystemError)) or \
+        type(error).__module__ == "sqlite3"
     return isinstance(error, MemoryError) or told and any(each in str(error) for each in MEMORIES)
 
 

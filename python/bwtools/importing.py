@@ -9,7 +9,8 @@ import pathlib
 import tempfile
 from typing import Sequence
 
-from . import _errors, inputs, options, pairs, placing, processes, store
+from . import _errors, inputs, pairs, placing, processes, store
+from ._inference import options
 from ._types.base import Column
 from .loader.encode import processes_for
 from .loader.table import Table

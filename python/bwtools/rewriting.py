@@ -15,7 +15,7 @@ from . import ragged
 from .ragged import Record
 from .signs import Signs
 from ._errors import Refused, shown
-from .wishes import BLANKS
+from ._inference.options import BLANKS
 
 RUN, BREAK = re.compile("[ \t]+"), re.compile("\r\n|\r|\n")
 

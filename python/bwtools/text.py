@@ -13,7 +13,7 @@ from typing import BinaryIO, Iterable, Iterator, NoReturn
 from . import encodings, quoting, separators
 from .comments import reader_of
 from .inputs import Positioned, name_of, open_input
-from .options import SEPARATORS
+from ._inference.options import SEPARATORS
 from .ragged import Record
 from .records import Records
 from .regular import Marks

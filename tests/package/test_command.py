@@ -2,7 +2,8 @@
 import argparse
 import unittest
 
-from bwtools import _errors, options
+from bwtools import _errors
+from bwtools._inference import options
 from bwtools._errors import Refused
 
 

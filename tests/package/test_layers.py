@@ -10,17 +10,16 @@ ROOT = pathlib.Path(bwtools.__file__).parent
 LAYERS = """
     __init__ _cli.__init__ _cli.statements _identifiers _progress _types.number_format
      +loader.dictionary processes records signs
-    _errors _types.base comments fields judges.survey options rounding
-    _engine.process _types.dictionary _types.numbers _types.temporal encodings inputs placing
-     +regular separators spans wishes
-    _engine.executor _sql.lexer _types.kinds plain ragged
-    _result judges.fields judges.verdict loader.reporting quoting rewriting store
-    _aggregation _dataframes _output floating judges.judge judges.likeness judges.spellings
-     +judges.truths pairs text textual
-    _sql.cost judges.clocks judges.dates judges.numbers shards source
-    _engine.cluster _sql.tables judges.wanted loader.feed questions
-    _cli.shell _sql.syntax court loader.encode
-    _sql.expressions _sql.literals _sql.parser deciding
+    _errors _types.base comments fields
+    _engine.process _inference.options _types.dictionary _types.numbers _types.temporal
+     +encodings inputs placing regular separators
+    _engine.executor _inference.fields _sql.lexer _types.kinds ragged
+    _result loader.reporting quoting rewriting store
+    _aggregation _dataframes _output pairs text
+    _sql.cost shards source
+    _engine.cluster _inference.ambiguity _sql.tables loader.feed
+    _cli.shell _inference.detectors _sql.syntax loader.encode
+    _inference.infer _sql.expressions _sql.literals _sql.parser
     _sql.pushdown _sql.resolve loader.numbers
     _sql.prepare _sql.questions _sql.render _sql.validate loader.table
     _sql.groups _sql.listing _sql.statement importing
@@ -30,8 +29,8 @@ LAYERS = """
     _cli.ask _cli.shards""".replace("\n     +", " ").split("\n")[1:]
 PLACES = {name: place for place, line in enumerate(LAYERS) for name in line.split()}
 # modules without code of their own
-EMPTY = ("_engine.__init__", "_sql.__init__", "_types.__init__", "judges.__init__",
-         "loader.__init__")
+EMPTY = ("_engine.__init__", "_inference.__init__", "_sql.__init__", "_types.__init__",
+         "judges.__init__", "loader.__init__")
 
 
 def is_for_types(node):

@@ -32,9 +32,9 @@ WORDS = [(), (), (), ("--keep-spelling",), ("--number", "a"), ("--drop-blanks",)
 # all fields stay texts as they are
 KEPT = ("--text", "a", "--text", "b", "--text", "c", "--keep-blanks", "--keep-spelling")
 # all fields are examined one by one, or as many at a time as may be
-ALONE = {"bwtools.judges.fields.MANY": 1 << 40}
-TOGETHER = {"bwtools.judges.fields.MANY": 0}
-FEW = {"bwtools.judges.fields.MANY": 0, "bwtools.judges.fields.AT_ONCE": 2,
+ALONE = {"bwtools._inference.fields.MANY": 1 << 40}
+TOGETHER = {"bwtools._inference.fields.MANY": 0}
+FEW = {"bwtools._inference.fields.MANY": 0, "bwtools._inference.fields.AT_ONCE": 2,
        "bwtools.loader.dictionary.FIELDS_A_BLOCK": 3}
 
 

@@ -58,7 +58,7 @@ class Tables(unittest.TestCase):
     def test_changed_spelling_is_counted_alike(self):
         fields = ["1.5", "2.25", "3", "4.10", "+5.00"]
         for many in (0, 1 << 11):
-            with mock.patch("bwtools.judges.fields.MANY", many):
+            with mock.patch("bwtools._inference.fields.MANY", many):
                 table = table_of(("a\n" + "\n".join(fields * 20) + "\n").encode())
                 # all but 2.25 and 4.10
                 self.assertEqual(table.numbers[0].counts.changed, 60)

@@ -54,7 +54,7 @@ def main() -> int:
     words, answering = sys.argv[1:], AnswerOptions()
     if not words or any(word.startswith("-") for word in words):
         # argparse takes as long as a small question: so it isn't imported if there is no option
-        from ..options import parsed
+        from .._inference.options import parsed
         given = parsed(parser_of(), words)
         words, answering = given.words, options_of(given)
     return _errors.status_of(NAME, lambda: ask(answering, *split(words)))

@@ -18,7 +18,8 @@ import io
 import os
 import sys
 
-from .. import _errors, options, pairs
+from .. import _errors, pairs
+from .._inference import options
 from .._output import turn_back
 from ..regular import open_regular
 from ..store import Store

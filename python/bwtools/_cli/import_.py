@@ -27,7 +27,8 @@ from __future__ import annotations
 import argparse
 import sys
 
-from .. import _errors, importing, options
+from .. import _errors, importing
+from .._inference import options
 from .options import add_import, new_parser
 
 NAME = "bw-import"

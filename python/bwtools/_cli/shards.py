@@ -20,7 +20,8 @@ from __future__ import annotations
 import argparse
 import sys
 
-from .. import _errors, importing, options
+from .. import _errors, importing
+from .._inference import options
 from .._sql.tables import name_of
 from .asking import ask
 from .options import add_asking, add_loading, new_parser, options_of

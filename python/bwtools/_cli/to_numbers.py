@@ -15,7 +15,8 @@ import argparse
 import pathlib
 import sys
 
-from .. import _errors, inputs, options, placing, store
+from .. import _errors, inputs, placing, store
+from .._inference import options
 from ..loader.table import Table, write_numbers
 from .options import new_parser
 

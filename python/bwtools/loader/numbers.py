@@ -7,18 +7,14 @@ import operator
 from dataclasses import dataclass, field
 from typing import Callable, Iterable, Iterator, Optional, Sequence
 
-from ..deciding import restores
-from ..floating import numbered_doubles
-from ..judges.fields import Fields, Part
-from ..judges.verdict import Decision
-from ..plain import Numbered, values_of
+from .._inference.infer import Sorted, numbered_doubles, restores
+from .._inference.fields import Fields, Numbered, Part, values_of
+from .._inference.ambiguity import Decision, change_in_double
 from .._types.base import Kind
 from .._types.kinds import Whole, undressed
 from .._types.numbers import Decimals, Floats, Ranked
 from .._types.temporal import Times
-from ..rounding import change_in_double
-from ..textual import Sorted
-from ..wishes import BLANKS
+from .._inference.options import BLANKS
 
 NULL, NEGATIVE_ZERO = "NULL", -1 << 63
 

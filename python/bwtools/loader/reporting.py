@@ -7,7 +7,7 @@ from .._types.base import Column
 from .._types.kinds import undressed
 from .._identifiers import option
 from .._errors import counted, shown
-from ..wishes import NULLS
+from .._inference.options import NULLS
 
 if TYPE_CHECKING:
     from .numbers import Counts, Numbers

@@ -13,20 +13,18 @@ from typing import BinaryIO, Iterable, Iterator, List, Optional, Sequence
 
 from .. import _errors
 from .._types.base import GREATEST, Column
-from ..deciding import decide
-from ..judges.fields import Fields
-from ..judges.verdict import Decision
+from .._inference.infer import decide, sorted_texts
+from .._inference.fields import Fields, Plain
+from .._inference.ambiguity import Decision
 from .._types.kinds import Whole
 from .._identifiers import MOST_BYTES, MOST_CHARACTERS, MOST_ROWS, names_of
 from .._types.number_format import SIMPLE
 from ..pairs import record_of
-from ..plain import Plain
 from ..source import Source
 from ..store import TableFile
 from .._errors import Refused, counted
-from ..textual import sorted_texts
 from .._progress import Waiting
-from ..wishes import BLANKS, Wishes, wishes_of
+from .._inference.options import BLANKS, Wishes, wishes_of
 from . import encode
 from .dictionary import ByteFile, Dictionary, merge, texts_of
 from .encode import CodedFile, Coder, Part, check

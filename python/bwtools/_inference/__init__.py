@@ -1,0 +1,1 @@
+"""Type inference: which kind a column of fields has."""

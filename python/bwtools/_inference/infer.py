@@ -1,0 +1,493 @@
+"""Chooses the kind of a column by the votes of its detectors."""
+from __future__ import annotations
+
+import itertools
+import math
+import shlex
+from array import array
+from dataclasses import dataclass, field, replace
+from typing import Iterable, Iterator, Optional, Sequence
+
+from .. import separators
+from .._errors import Refused, counted, shown
+from .._identifiers import option
+from .._types.base import Kind, Nulls, Numbers, Styled
+from .._types.dictionary import SortedList, TextBlocks, Texts
+from .._types.number_format import Style, is_number
+from .._types.numbers import Floats, Ranked, bits_of
+from .._types.temporal import ISO_DATE, Times, is_like_date
+from ..source import Source
+from .ambiguity import Asked, Decision, Judge, Question, Verdict, refuse
+from .detectors import LIKENESSES, ClockJudge, DateJudge, NumberJudge, TruthJudge, WantedJudge
+from .fields import Fields, Numbered, Run, values_of
+from .options import BLANKS
+
+
+# Gives the float columns of a table their numbers: one gap for all of them, or the places among a
+# column's doubles.
+
+WIDEST = 1 << 63
+
+
+def settle_floats(columns: Sequence[Fields], decisions: list[Decision]) -> list[Decision]:
+    """Returns the decisions, in which float columns have their gap, or their distinct doubles if
+    they don't fit."""
+    reaches = {place: reach_of(columns[place], decision) for place,
+               decision in enumerate(decisions) if is_float(decision)}
+    least = min((reach[0] for reach in reaches.values()), default=math.inf)
+    gap = max(0, bits_of([least])[0] - 1) if math.isfinite(least) else 0
+    found = list(decisions)
+    for place, (_, low, high) in reaches.items():
+        floats = Floats(gap)
+        numbers = floats.numbers([low, high, 0.0]) if low <= high else [0]
+        kind: Numbers = floats
+        if max(numbers) - min(numbers) >= WIDEST:
+            style = style_of(decisions[place])
+            doubles = {each or 0.0 for each in doubles_of(columns[place], style)}
+            kind = Ranked(SortedList(sorted(doubles)))
+        found[place] = with_numbers(decisions[place], kind)
+    return found
+
+
+def is_float(decision: Decision) -> bool:
+    kind = decision.kind.inner if isinstance(decision.kind, Styled) else decision.kind
+    return isinstance(kind, Floats)
+
+
+def style_of(decision: Decision) -> Style:
+    return decision.kind.style if isinstance(decision.kind, Styled) else Style()
+
+
+def with_numbers(decision: Decision, kind: Numbers) -> Decision:
+    styled = decision.kind
+    return replace(decision,
+                   kind=Styled(kind, styled.style) if isinstance(styled, Styled) else kind)
+
+
+def reach_of(column: Fields, decision: Decision) -> tuple[float, float, float]:
+    """Returns a bound of the least magnitude above 0 of a column's doubles, the least and the
+    greatest double."""
+    least, low, high = column.plain.spans.reach
+    style = style_of(decision)
+    for digits, (first, last) in column.plain.spans.ends.items():
+        power = 10 ** digits
+        least, low, high = min(least, 1 / power), min(low, first / power), max(high, last / power)
+    for texts in column.bare():
+        doubles = [float(style.bare(text) or 0) for text in texts]
+        if doubles:
+            least = min(least, min(map(float.__abs__, filter(None, doubles)), default=math.inf))
+            low, high = min(low, min(doubles)), max(high, max(doubles))
+    return least, low, high
+
+
+def doubles_of(column: Fields, style: Style) -> Iterator[float]:
+    """Yields the doubles of a column, each of them once or more."""
+    for texts in column.bare():
+        yield from (float(style.bare(text) or 0) for text in texts)
+    for part in column.parts:
+        if part.kept:
+            yield from numbered_doubles(part.kept)
+
+
+def numbered_doubles(kept: Numbered) -> Sequence[float]:
+    """Returns the doubles nearest to stored numbers."""
+    numbers = values_of(kept)
+    if kept.form == "float":
+        return numbers
+    power = 10 ** kept.digits
+    return list(map(float, numbers)) if power == 1 else [number / power for number in numbers]
+
+
+# Columns of texts: their sorted lists, and the places that their fields get in these.
+
+
+@dataclass
+class Sorted:
+    """The kind of a column of texts; the place of each distinct field among its texts, or -1 for
+    null, unless each field has its own place; and its first and its last text."""
+    kind: Texts
+    places: Optional[array[int]]
+    ends: tuple[str, ...]
+
+
+def text_question(column: Fields) -> Optional[Question]:
+    """Returns what must be asked about blanks in a column of texts: whether texts that differ only
+    in them are the same."""
+    rules = column.wishes.rules
+    if rules.keeps_blanks or rules.drops_blanks or not column.have_blanks:
+        return None
+    padded = {text.strip(BLANKS): text for part, texts in column.each() if part.has_blanks
+              for text in texts if text[:1] in BLANKS or text[-1:] in BLANKS}
+    for _, texts in column.each():
+        for text in texts:
+            bare = text.strip(BLANKS)
+            if bare and padded.get(bare, text) != text:
+                return Question("{0} and {1} differ only in blanks", (padded[bare], text),
+                                blanks_options(column))
+    return None
+
+
+def blanks_options(column: Fields) -> tuple[str, ...]:
+    """Returns the options that say what becomes of the blanks of a column."""
+    heading = column.wishes.heading
+    return tuple(shlex.quote(f"--{what}-blanks={heading}") for what in ("drop", "keep"))
+
+
+def sorted_texts(column: Fields) -> Sorted:
+    """Returns the sorted texts of a column of codes."""
+    if column.have_blanks and not column.wishes.rules.keeps_blanks:
+        return without_blanks(column)
+    assert column.dictionary is not None
+    dictionary = column.dictionary
+    found = [dictionary.find(word.encode()) for word in column.wishes.nulls
+             if word in column.words]
+    # a word may only be there with blanks around it, which are kept
+    nulls = sorted(place for place in found if place is not None)
+
+    def blocks() -> Iterator[list[bytes]]:
+        for span in dictionary.spans:
+            fields = dictionary.block(span).fields
+            for place in reversed(nulls):
+                if span.first <= place < span.end:
+                    del fields[place - span.first]
+            yield fields
+
+    first = next((at for at, null in enumerate(nulls) if at != null), len(nulls))
+    last = next((at for at, null in zip(itertools.count(len(dictionary) - 1, -1), reversed(nulls))
+                 if at != null), len(dictionary) - 1 - len(nulls))
+    ends = (first, last) if len(nulls) < len(dictionary) else ()
+    return Sorted(Texts(TextBlocks(len(dictionary) - len(nulls), blocks)),
+                  places_beside(nulls, len(dictionary)) if nulls else None,
+                  tuple(dictionary.field(place).decode() for place in ends))
+
+
+def places_beside(nulls: Sequence[int], count: int) -> array[int]:
+    """Returns the places of fields among those that aren't null, and -1 for these."""
+    places, first = array("i"), 0
+    for before, place in enumerate(nulls):
+        places.extend(range(first - before, place - before))
+        places.append(-1)
+        first = place + 1
+    places.extend(range(first - len(nulls), count - len(nulls)))
+    return places
+
+
+def without_blanks(column: Fields) -> Sorted:
+    """Returns the sorted texts of a column whose texts lose their blanks."""
+    bare = [text.strip(BLANKS) for _, texts in column.each() for text in texts]
+    listed = sorted(set(bare).difference(column.wishes.nulls))
+    places = dict(zip(listed, range(len(listed))))
+    encoded = list(map(str.encode, listed))
+    return Sorted(Texts(TextBlocks(len(listed), lambda: [encoded])),
+                  array("i", [places.get(text, -1) for text in bare]),
+                  (listed[0], listed[-1]) if listed else ())
+
+
+# The judges of a column, and what they decide together.
+
+# a column that is mostly of a kind, and has at most so many other words, is refused
+MOST_WORDS = 3
+
+
+@dataclass
+class Opinion:
+    """What one judge thinks of a column: how many of its distinct texts are like its own, how many
+    rows have these, and the first others, of which there may be more. Runs of which few texts can
+    be like its own are left."""
+    judge: Judge
+    likes: int = 0
+    rows: int = 0
+    others: dict[str, None] = field(default_factory=dict)
+    left: set[int] = field(default_factory=set)
+
+    def add(self, run: Run) -> None:
+        """Adds the texts of a run."""
+        known = set(self.judge.like(run.bare))
+        self.likes += len(known)
+        if known:
+            self.rows += sum(itertools.compress(run.counts, map(known.__contains__, run.texts)))
+        if len(self.others) <= MOST_WORDS and len(known) < len(run.bare):
+            others = (text for text in run.bare if text not in known)
+            self.others.update(dict.fromkeys(itertools.islice(others, MOST_WORDS + 1)))
+
+    def leaves(self, number: int, run: Run) -> bool:
+        """Returns whether a run is left, since less than half of its texts, and of its fields, are
+        like the judge's own."""
+        if not run.texts_drawn:
+            return False
+        known = set(self.judge.like(sorted({*run.texts_drawn, *run.rows_drawn})))
+        if any(sum(map(known.__contains__, each)) * 5 >= len(each) * 2
+               for each in (run.texts_drawn, run.rows_drawn)):
+            return False
+        self.left.add(number)
+        self.others.setdefault(next(text for text in run.texts_drawn if text not in known))
+        return True
+
+
+def others_of(column: Fields, opinion: Opinion) -> list[str]:
+    """Returns the first texts that aren't like a judge's own, one more than may be refused."""
+    found = dict(opinion.others)
+    foreign = column.plain.forms - set(opinion.judge.forms)
+    for part in column.parts if foreign else ():
+        if len(found) > MOST_WORDS:
+            break
+        if part.kept and part.kept.form in foreign:
+            bare = (text.strip(BLANKS) for text in column.texts(part))
+            found.update(dict.fromkeys(itertools.islice(
+                (text for text in bare if text not in column.wishes.words), MOST_WORDS + 1)))
+    return list(found)[:MOST_WORDS + 1]
+
+
+def count_fields(column: Fields, opinion: Opinion) -> tuple[int, int]:
+    """Returns how many fields are like a judge's own, and how many there are, without nulls."""
+    return opinion.rows + column.count_rows(opinion.judge.forms), column.filled
+
+
+class Court:
+    """The judges of a column, asked in order, and what they think of it."""
+
+    def __init__(self, column: Fields) -> None:
+        self.column, wishes = column, column.wishes
+        judges: Iterable[Judge] = (TruthJudge(), NumberJudge(), DateJudge(), ClockJudge())
+        is_asked = wishes.form is not None or wishes.is_number or wishes.digits is not None
+        if wishes.form is not None:
+            judges = (WantedJudge(wishes.form),)
+        elif is_asked:
+            judges = (NumberJudge(),)
+        self.opinions = [] if wishes.is_text else list(map(Opinion, judges))
+        self.count = 0
+        may_leave = not is_asked and not column.plain.forms
+        for number, run in enumerate(column.runs):
+            self.count += run.size
+            for opinion in self.opinions:
+                if not may_leave or not opinion.leaves(number, run):
+                    opinion.add(run)
+        # if other runs have some, all are counted
+        late = [opinion for opinion in self.opinions if opinion.left and opinion.likes]
+        for number, run in enumerate(column.runs if late else ()):
+            for opinion in late:
+                if number in opinion.left:
+                    opinion.add(run)
+
+    def winner(self) -> Optional[Judge]:
+        """Returns the first judge to whom all fields are like its own, if there are any."""
+        forms = self.column.plain.forms
+        for opinion in self.opinions:
+            is_own = forms <= set(opinion.judge.forms) and bool(opinion.likes or forms)
+            if not opinion.others and is_own:
+                return opinion.judge
+        return None
+
+    def verdict(self, signs: set[str]) -> Verdict:
+        """Returns what the column becomes."""
+        wishes, winner = self.column.wishes, self.winner()
+        if winner:
+            return winner.decide(self.column, signs)
+        if not self.count and not self.column.plain.forms:
+            return nothing(self.column)
+        if wishes.is_text:
+            return Decision(None, "by --text")
+        if wishes.form is not None or wishes.is_number or wishes.digits is not None:
+            return self.asked_for()
+        return self.mostly() or self.looking() or Decision(None)
+
+    def asked_for(self) -> Question:
+        """Returns why a column isn't what an option says."""
+        opinion, = self.opinions
+        wishes, words = self.column.wishes, others_of(self.column, opinion)[:MOST_WORDS]
+        name = "--number" if wishes.is_number else "--digits"
+        name = "--date" if wishes.form is not None else name
+        what = {"--date": f"a date in the format {wishes.form}"}.get(name, "a number")
+        return Question(f"{listed(len(words))} {verb(len(words))} {what}, as {name} states",
+                        tuple(words), (), True)
+
+    def mostly(self) -> Optional[Verdict]:
+        """Returns what becomes of a column that is mostly of one kind, if it is."""
+        shared = [opinion for opinion in self.opinions if opinion.judge.is_shared and
+                  (opinion.likes or self.column.plain.forms & set(opinion.judge.forms))]
+        shares = [(*count_fields(self.column, opinion), opinion) for opinion in shared]
+        for likes, count, opinion in sorted(shares, key=lambda share: -share[0]):
+            if likes * 2 < count and (opinion.likes * 2 <= self.count or self.column.plain.forms):
+                continue
+            words, heading = others_of(self.column, opinion), self.column.wishes.heading
+            # half of the fields don't show what the others should be, but these have no order
+            if len(words) <= MOST_WORDS and likes * 2 != count:
+                return few_words(opinion.judge, words, likes, count, heading)
+            plural = opinion.judge.plural
+            why = f"{likes:,} of {counted(count, 'field')} look like {plural}"
+            return Decision(None, why, plural)
+        return None
+
+    def looking(self) -> Optional[Decision]:
+        """Returns what becomes of a column of texts most of which look like something that no judge
+        reads, if they do."""
+        column = self.column
+        opinions = list(map(Opinion, LIKENESSES))
+        for run in column.runs:
+            for opinion in opinions:
+                opinion.add(run)
+        for each, opinion in zip(LIKENESSES, opinions):
+            likes, count = count_fields(column, opinion) if opinion.likes else (0, 0)
+            are_most = opinion.likes * 2 > self.count and not column.plain.forms
+            if (are_most or likes * 2 > count) and not each.has_order(itertools.chain.from_iterable(
+                    column.bare())):
+                why = f"{likes:,} of {counted(count, 'field')} look like {each.plural}"
+                return Decision(None, why, each.plural)
+        return None
+
+
+def few_words(judge: Judge, words: list[str], likes: int, count: int, heading: str) -> Question:
+    share = f"{likes:,} of {counted(count, 'field')}"
+    what = f"{listed(len(words))} {verb(len(words))} {judge.singular}, as {share} are"
+    if judge.plural == "dates" and all(map(is_like_date, words)):
+        what = f"{listed(len(words))} {verb(len(words))} a date"
+    return Question(what, tuple(words), (option("--text", heading),), True)
+
+
+def listed(count: int) -> str:
+    """Returns places for some texts in a message."""
+    places = [f"{{{place}}}" for place in range(count)]
+    return " and ".join([", ".join(places[:-1]), places[-1]] if count > 1 else places)
+
+
+def verb(count: int) -> str:
+    return "isn't" if count == 1 else "aren't"
+
+
+def nothing(column: Fields) -> Decision:
+    """Returns what becomes of a column of nulls alone, or of words that are null only in other
+    columns."""
+    words = [word for word in words_of(column) if word not in column.wishes.nulls]
+    return Decision(None,
+                    f"only {shown(words[0])} and similar words") if words else Decision(Nulls())
+
+
+def words_of(column: Fields) -> list[str]:
+    """Returns the words for null that occur in a column."""
+    return [word for word in column.wishes.words if word in column.words]
+
+
+# Decides what each column of a file becomes. What can't be decided is refused, for all columns at
+# once, with the options that decide it.
+
+
+def decide(source: Source, columns: list[Fields], may_be_row: bool) -> list[Decision]:
+    """Returns what each column becomes. Raises Refused with all that can't be decided, or for a
+    heading that looks like a row, if it may be one."""
+    courts = [Court(column) for column in columns]
+    winners = [court.winner() for court in courts]
+    signs = {sign for winner,
+             column in zip(winners, columns) if winner for sign in winner.signs(column)}
+    verdicts = [decided(source, court, signs) for court in courts]
+    # the options that questions name have headings
+    if may_be_row and source.has_heading:
+        refuse_heading(source, columns, verdicts)
+    decisions = [each for each in verdicts if isinstance(each, Decision)]
+    refuse(source, [Asked(place, column, verdict) for place, (column, verdict) in
+                    enumerate(zip(columns, verdicts)) if isinstance(verdict, Question)])
+    return settle_floats(columns, decisions)
+
+
+def decided(source: Source, court: Court, signs: set[str]) -> Verdict:
+    """Returns what a column becomes, or what must be asked about it."""
+    verdict = court.verdict(signs)
+    if isinstance(verdict, Question):
+        return verdict
+    decision = exact(court.column, verdict)
+    return question_of(source, court.column, decision) or decision
+
+
+def question_of(source: Source, column: Fields, decision: Decision) -> Optional[Question]:
+    """Returns what must be asked about a column that became one of texts, or that has no rows."""
+    found = None
+    if not decision.why and (decision.kind is None or not column.rows):
+        found = table_question(source, column)
+    return found or (text_question(column) if decision.kind is None else None)
+
+
+def table_question(source: Source, column: Fields) -> Optional[Question]:
+    """Returns what must be asked about the only column of a file, if it may be a table with another
+    separator: its texts have the same number of one."""
+    if not source.text.is_guessed or len(source.headings) > 1 or column.wishes.is_text or \
+            column.plain.forms:
+        return None
+    heading = source.headings[0] if source.has_heading else None
+    for sign in separators.MORE:
+        count = count_in_all(column, sign)
+        if heading and not column.rows and all(map(is_number, heading.split())):
+            # a row, and no heading
+            count = separators.count(heading, sign)
+        # one in all rows but not in the heading may be a name, a time or an address
+        if count > 1 or count and (heading is None or separators.count(heading, sign) == count):
+            what = f"{count} {sign!r}, which may separate fields"
+            return Question(f"all its rows have {what}" if column.rows else
+                            f"the only line has {what}", (),
+                            (separators.separator_option(sign),
+                             option("--text", column.wishes.heading)))
+    return None
+
+
+def count_in_all(column: Fields, sign: str) -> int:
+    """Returns how often a separator is in each text of a column, or 0 if not equally often."""
+    found: Optional[int] = None
+    for texts in column.bare():
+        is_there = separators.count("".join(texts), sign) > 0
+        for count in (separators.count(text, sign) for text in texts) if is_there else (0,):
+            found = count if found is None else found
+            if not count or count != found:
+                return 0
+    return found or 0
+
+
+def exact(column: Fields, decision: Decision) -> Decision:
+    """Returns a decision, or that for texts if --keep-spelling asks for fields that come back
+    exactly, and one wouldn't."""
+    if not column.wishes.rules.keeps_spelling or decision.kind is None:
+        return decision
+    kind, plain = decision.kind, column.plain
+    lengths = plain.spans.lengths
+    is_odd = any(is_changed(kind, column, text)
+                 for texts in column.unkept() for text in texts)
+    if not is_odd and not plain.padded and not (len(lengths) > 1 and plain.spans.has_zero) and \
+            all(restores(kind, shape) for shape in plain.shapes):
+        return decision
+    return Decision(None, "some fields wouldn't be restored exactly", kind.plural)
+
+
+def is_changed(kind: Kind, column: Fields, text: str) -> bool:
+    """Returns whether a field comes back as another one. One that is null comes back as nothing,
+    which the report says of words."""
+    bare = text.strip(BLANKS)
+    if bare in column.wishes.words:
+        return not bare and bool(text) and column.wishes.rules.keeps_blanks
+    return kind.text(kind.number(bare) or 0) != text
+
+
+def restores(kind: Kind, shape: tuple[str, bool, int, str]) -> bool:
+    """Returns whether times of a shape come back as they were."""
+    between, has_seconds, digits, zone = shape
+    form = f"{ISO_DATE}{between}%H:%M{':%S' if has_seconds else ''}"
+    return isinstance(kind, Times) and (kind.form, kind.digits, kind.zone) == (form, digits, zone)
+
+
+def refuse_heading(source: Source, columns: Sequence[Fields], verdicts: Sequence[Verdict]) -> None:
+    """Rejects a first line that looks like the rows below it."""
+    for column, verdict in zip(columns, verdicts):
+        heading = column.wishes.heading
+        judges: list[Judge] = [DateJudge(), NumberJudge(), ClockJudge(), TruthJudge()]
+        if column.wishes.form is not None:
+            judges = [WantedJudge(column.wishes.form)]
+        if any(judge.like([heading]) and is_all_like(judge, column, verdict) for judge in judges):
+            raise Refused(f"{source.path}: the first line has {shown(heading)} above a column of "
+                          "such fields: "
+                          "use --no-heading if it is a row, or --heading if it is a heading")
+
+
+def is_all_like(judge: Judge, column: Fields, verdict: Verdict) -> bool:
+    """Returns whether all fields of a column are like a judge's own."""
+    if isinstance(verdict, Decision) and isinstance(verdict.kind, Nulls):
+        return True
+    found = [(len(texts), len(judge.like(texts))) for texts in column.bare()]
+    return column.plain.forms <= set(judge.forms) and all(count == likes for count,
+                                                          likes in found) and \
+        (bool(column.plain.forms) or any(count for count, _ in found))
