@@ -30,7 +30,7 @@ from bwtools._inference.options import add_options, parsed
 from bwtools._cli import import_
 from bwtools.loader.table import Table, write_numbers
 from bwtools._types.dictionary import SortedList
-from bwtools.source import Source
+from bwtools._csv.file import Source
 from bwtools._errors import Refused
 
 ROOT = pathlib.Path(__file__).resolve().parent.parent

@@ -83,7 +83,7 @@ class Installed(support.TestCase):
         again = self.install(prefix, top=top, PATH=f"{os.environ['PATH']}:{prefix}/bin")
         self.assertEqual((again.status, content(prefix)), (0, kept))
         self.assertNotIn("PATH", again.out)
-        (package / "__pycache__" / "kind.cpython-39.pyc").write_bytes(b"of another Python")
+        (package / "__pycache__" / "_errors.cpython-39.pyc").write_bytes(b"of another Python")
         gone = self.install("--uninstall", prefix, top=top)
         self.assertEqual((gone.status, content(prefix)), (0, {}), gone)
 

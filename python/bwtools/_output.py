@@ -297,8 +297,8 @@ def blocks_of(result: TextIO, width: int) -> Iterator[tuple[int, Sequence[Sequen
     """Yields the columns of a result after its heading, many rows at a time, each with the number
     of the line before it."""
     from csv import reader
-    from .fields import CHARACTERS_AT_ONCE, columns_of
-    from .signs import NUL
+    from ._csv.reader import CHARACTERS_AT_ONCE, columns_of
+    from ._csv.dialect import NUL
     before, text = 1, ""
     while True:
         text = result.read(CHARACTERS_AT_ONCE)

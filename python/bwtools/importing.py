@@ -9,7 +9,8 @@ import pathlib
 import tempfile
 from typing import Sequence
 
-from . import _errors, inputs, pairs, placing, processes, store
+from . import _errors, pairs, placing, processes, store
+from ._csv.file import open_input, path_of
 from ._inference import options
 from ._types.base import Column
 from .loader.encode import processes_for
@@ -34,13 +35,13 @@ def import_file(given: argparse.Namespace, out: str, is_folder: bool) -> None:
     name = _errors.table_name(given.name, out)
     path = out.rstrip("/") or "/"
     if not os.path.isdir(path):
-        placing.refuse_target(path, [inputs.path_of(given.csv)])
+        placing.refuse_target(path, [path_of(given.csv)])
     elif not is_folder and not os.path.lexists(os.path.join(path, FILE)):
         raise Refused(f"{path} can't be overwritten: it is a folder")
     refuse_out(path)
     _errors.program()
     is_folder = is_folder or os.path.isdir(path)
-    with placing.new_folder(path) as room, inputs.open_input(given.csv) as file:
+    with placing.new_folder(path) as room, open_input(given.csv) as file:
         table = Table(given.csv, given, room, file, is_folder)
         if len(table.coded.parts) == 1 and not is_folder:
             with Waiting().shown("the table is written"):

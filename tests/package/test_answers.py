@@ -2,7 +2,8 @@
 import io
 import unittest
 
-from bwtools import _output as answers, fields
+from bwtools import _output as answers
+from bwtools._csv import reader
 from bwtools._types import kinds
 from bwtools._types.base import Column
 from bwtools._errors import Refused
@@ -55,11 +56,11 @@ class Answers(unittest.TestCase):
             self.assertIn(wanted, str(refused.exception))
 
     def test_many_blocks(self):
-        was, fields.CHARACTERS_AT_ONCE = fields.CHARACTERS_AT_ONCE, 4
+        was, reader.CHARACTERS_AT_ONCE = reader.CHARACTERS_AT_ONCE, 4
         try:
             self.assertEqual(back("day\n" + "19844\n0\nNULL\n" * 5),
                              "day\n" + '2024-05-01\n1970-01-01\n""\n' * 5)
             with self.assertRaisesRegex(Refused, "line 7 of the result: x is"):
                 back("day\n1\n2\n3\n4\n5\nx\n")
         finally:
-            fields.CHARACTERS_AT_ONCE = was
+            reader.CHARACTERS_AT_ONCE = was

@@ -15,7 +15,7 @@ from bwtools._cli import import_
 from bwtools.loader import dictionary, encode, feed
 from bwtools.loader.dictionary import ByteFile, merge, read_fields
 from bwtools.shards import Folder
-from bwtools.signs import Signs
+from bwtools._csv.dialect import Signs
 from bwtools._errors import Refused
 
 from tests.support import Import, TestCase, bw, described

@@ -8,10 +8,10 @@ import pathlib
 import random
 import unittest
 
-from bwtools import fields
+from bwtools._csv import reader
 from bwtools.loader.dictionary import texts_of
 from bwtools.loader.encode import Coder
-from bwtools.source import Source
+from bwtools._csv.file import Source
 from bwtools._errors import Refused
 
 from tests.support import bw, in_file, options, source_of
@@ -48,7 +48,7 @@ def coded_columns(coded):
 
 
 def parts(text, width, separator=",", quote='"'):
-    return fields.columns_of(text.split(quote), separator, width)
+    return reader.columns_of(text.split(quote), separator, width)
 
 
 class Columns(unittest.TestCase):

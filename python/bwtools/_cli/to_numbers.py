@@ -15,7 +15,8 @@ import argparse
 import pathlib
 import sys
 
-from .. import _errors, inputs, placing, store
+from .. import _errors, placing, store
+from .._csv.file import path_of
 from .._inference import options
 from ..loader.table import Table, write_numbers
 from .options import new_parser
@@ -28,7 +29,7 @@ def work(given: argparse.Namespace) -> None:
     stem = out.name.removesuffix(".csv") or out.name
     columns = out.with_name(f"{stem}.columns")
     for path in (out, columns):
-        placing.refuse_target(path, [inputs.path_of(given.csv)])
+        placing.refuse_target(path, [path_of(given.csv)])
     with placing.new_folder(out) as folder:
         table = Table(given.csv, given, folder)
         write_numbers(table, folder, folder / "numbers.csv")

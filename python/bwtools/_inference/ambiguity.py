@@ -7,15 +7,15 @@ import re
 from dataclasses import dataclass
 from typing import Mapping, NamedTuple, NoReturn, Optional, Protocol, Sequence, Union
 
+from .._csv.dialect import BLANKS
 from .._errors import Refused, shown
 from .._identifiers import option
 from .._types.base import Kind
 from .._types.kinds import Styled, undressed
 from .._types.number_format import DEFAULT, Style
 from .._types.numbers import Floats, Ranked
-from ..source import Source
+from .._csv.file import Source
 from .fields import Fields
-from .options import BLANKS
 
 
 # Numbers that are rounded to some digits after the point, as an option asks.

@@ -8,6 +8,7 @@ import re
 from dataclasses import dataclass, field
 from typing import Callable, ClassVar, Iterable, Optional, Sequence, Union
 
+from .._csv.dialect import BLANKS
 from .._errors import shown
 from .._identifiers import option
 from .._types.base import GREATEST, LEAST, Kind, Numbers, Styled, Whole
@@ -19,7 +20,6 @@ from .._types.temporal import (CLOCK_LINES, DATE_LINES, DATE_STARTS, ISO_DATE, M
 from .ambiguity import (SHORT, Decision, Question, Rounding, Verdict, change_in_double, matching,
                         starting)
 from .fields import MOST_PLACES, Fields, Spans
-from .options import BLANKS
 
 
 # How the dates and times of a column are spelled.

@@ -12,11 +12,12 @@ import re
 from dataclasses import dataclass, field
 from typing import Any, Iterable, Iterator, NamedTuple, Optional, Sequence
 
+from .._csv.dialect import BLANKS
 from .._types.base import GREATEST, LEAST
 from .._types.number_format import is_grouped
 from .._types.temporal import plain_times
 from ..loader.dictionary import Dictionary, texts_of
-from .options import BLANKS, NULLS, Wishes
+from .options import NULLS, Wishes
 
 
 # The numbers that a column stores, by their digits.

@@ -8,7 +8,8 @@ from array import array
 from dataclasses import dataclass, field, replace
 from typing import Iterable, Iterator, Optional, Sequence
 
-from .. import separators
+from .._csv.dialect import BLANKS
+from .._csv import dialect
 from .._errors import Refused, counted, shown
 from .._identifiers import option
 from .._types.base import Kind, Nulls, Numbers, Styled
@@ -16,11 +17,10 @@ from .._types.dictionary import SortedList, TextBlocks, Texts
 from .._types.number_format import Style, is_number
 from .._types.numbers import Floats, Ranked, bits_of
 from .._types.temporal import ISO_DATE, Times, is_like_date
-from ..source import Source
+from .._csv.file import Source
 from .ambiguity import Asked, Decision, Judge, Question, Verdict, refuse
 from .detectors import LIKENESSES, ClockJudge, DateJudge, NumberJudge, TruthJudge, WantedJudge
 from .fields import Fields, Numbered, Run, values_of
-from .options import BLANKS
 
 
 # Gives the float columns of a table their numbers: one gap for all of them, or the places among a
@@ -412,17 +412,17 @@ def table_question(source: Source, column: Fields) -> Optional[Question]:
             column.plain.forms:
         return None
     heading = source.headings[0] if source.has_heading else None
-    for sign in separators.MORE:
+    for sign in dialect.MORE:
         count = count_in_all(column, sign)
         if heading and not column.rows and all(map(is_number, heading.split())):
             # a row, and no heading
-            count = separators.count(heading, sign)
+            count = dialect.count(heading, sign)
         # one in all rows but not in the heading may be a name, a time or an address
-        if count > 1 or count and (heading is None or separators.count(heading, sign) == count):
+        if count > 1 or count and (heading is None or dialect.count(heading, sign) == count):
             what = f"{count} {sign!r}, which may separate fields"
             return Question(f"all its rows have {what}" if column.rows else
                             f"the only line has {what}", (),
-                            (separators.separator_option(sign),
+                            (dialect.separator_option(sign),
                              option("--text", column.wishes.heading)))
     return None
 
@@ -431,8 +431,8 @@ def count_in_all(column: Fields, sign: str) -> int:
     """Returns how often a separator is in each text of a column, or 0 if not equally often."""
     found: Optional[int] = None
     for texts in column.bare():
-        is_there = separators.count("".join(texts), sign) > 0
-        for count in (separators.count(text, sign) for text in texts) if is_there else (0,):
+        is_there = dialect.count("".join(texts), sign) > 0
+        for count in (dialect.count(text, sign) for text in texts) if is_there else (0,):
             found = count if found is None else found
             if not count or count != found:
                 return 0

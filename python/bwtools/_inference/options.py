@@ -6,13 +6,10 @@ from dataclasses import dataclass, replace
 from typing import Any, Optional, Sequence
 
 from .._errors import Refused, shown
-from ..signs import NO_QUOTE
+from .._csv.dialect import NO_QUOTE, SEPARATORS
 
 
 # The options of the programs, and what the arguments of the command line give.
-
-# separators of fields that have a name
-SEPARATORS = {"comma": ",", "semicolon": ";", "tab": "\t", "bar": "|", "space": " ", "\\t": "\t"}
 
 # options that stand alone, or with =COLUMN, and what the latter are for the parser: it would take a
 # name after the former for the column
@@ -171,7 +168,6 @@ def of_column(word: str) -> str:
 
 # words that are null in a column of numbers, dates, times or booleans
 NULLS = ("NULL", "null", "NA", "N/A", "-")
-BLANKS = " \t"
 
 
 @dataclass(frozen=True)

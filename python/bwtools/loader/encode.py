@@ -14,8 +14,8 @@ from dataclasses import dataclass
 from typing import Any, Collection, Optional, Sequence
 
 from .. import _errors, pairs, processes
-from ..signs import Signs
-from ..source import Source
+from .._csv.dialect import Signs
+from .._csv.file import Source
 from .._identifiers import MOST_BYTES, MOST_ROWS
 from .._errors import Refused
 from .._progress import Waiting

@@ -11,10 +11,9 @@ import itertools
 import os
 from typing import Collection, Iterator, Optional, Protocol, Sequence
 
-from ..comments import reader_of
-from ..inputs import Positioned
-from ..signs import Signs
-from ..source import Source
+from .._csv.reader import reader_of
+from .._csv.file import Positioned, Source
+from .._csv.dialect import Signs
 from .._errors import Refused
 from .dictionary import breaks_in
 

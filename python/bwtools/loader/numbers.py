@@ -7,6 +7,7 @@ import operator
 from dataclasses import dataclass, field
 from typing import Callable, Iterable, Iterator, Optional, Sequence
 
+from .._csv.dialect import BLANKS
 from .._inference.infer import Sorted, numbered_doubles, restores
 from .._inference.fields import Fields, Numbered, Part, values_of
 from .._inference.ambiguity import Decision, change_in_double
@@ -14,7 +15,6 @@ from .._types.base import Kind
 from .._types.kinds import Whole, undressed
 from .._types.numbers import Decimals, Floats, Ranked
 from .._types.temporal import Times
-from .._inference.options import BLANKS
 
 NULL, NEGATIVE_ZERO = "NULL", -1 << 63
 

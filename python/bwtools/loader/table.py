@@ -11,6 +11,7 @@ from array import array
 from dataclasses import dataclass
 from typing import BinaryIO, Iterable, Iterator, List, Optional, Sequence
 
+from .._csv.dialect import BLANKS
 from .. import _errors
 from .._types.base import GREATEST, Column
 from .._inference.infer import decide, sorted_texts
@@ -20,11 +21,11 @@ from .._types.kinds import Whole
 from .._identifiers import MOST_BYTES, MOST_CHARACTERS, MOST_ROWS, names_of
 from .._types.number_format import SIMPLE
 from ..pairs import record_of
-from ..source import Source
+from .._csv.file import Source
 from ..store import TableFile
 from .._errors import Refused, counted
 from .._progress import Waiting
-from .._inference.options import BLANKS, Wishes, wishes_of
+from .._inference.options import Wishes, wishes_of
 from . import encode
 from .dictionary import ByteFile, Dictionary, merge, texts_of
 from .encode import CodedFile, Coder, Part, check

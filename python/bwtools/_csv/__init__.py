@@ -1,0 +1,1 @@
+"""CSV files: their bytes, their dialects and their records."""
