@@ -25,7 +25,8 @@ from typing import Iterator, Sequence
 
 import tests  # noqa: F401  finds bwtools
 from bwtools.loader.table import Table
-from bwtools._inference.options import BLANKS, add_options, parsed
+from bwtools._csv.dialect import BLANKS
+from bwtools._inference.options import add_options, parsed
 from bwtools._errors import Refused, shown
 from tests.support import ROOT, columns_in
 

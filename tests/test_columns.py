@@ -10,7 +10,7 @@ import os
 import random
 import sqlite3
 
-from bwtools import store
+from bwtools._storage import columns_file
 from bwtools._cli import to_numbers
 from bwtools._output import turn_back
 from bwtools._inference.options import parsed
@@ -36,7 +36,7 @@ class Columns(support.TestCase):
         (folder / "t.schema").write_text(bw("infer", folder / "out.csv").out)
         loaded = bw("load", folder / "t.schema", folder / "out.csv", folder / "t.bw")
         self.assertEqual(loaded, (0, "", ""))
-        out, columns = io.StringIO(newline=""), store.Store(folder / "out.columns").columns
+        out, columns = io.StringIO(newline=""), columns_file.Store(folder / "out.columns").columns
         done = bw("query", folder / "t.bw", "SELECT * FROM t")
         turn_back(columns, io.StringIO(done.out, newline=""), out)
         return records_of(out.getvalue())

@@ -10,10 +10,10 @@ from ._engine.executor import Asker, Engine, Local
 from ._result import Result
 from ._sql import plan
 from ._sql.statement import Parameters, Statement
-from ._sql.tables import Catalog, Table
+from ._storage.catalog import Catalog, Table
 from ._types.base import Column
 from ._errors import Failed, Refused
-from .regular import ATTEMPTS
+from ._storage.columns_file import ATTEMPTS
 from ._progress import Waiting
 
 if TYPE_CHECKING:

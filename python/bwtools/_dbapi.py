@@ -11,7 +11,7 @@ from ._database import Database, Settings
 from ._result import Position, Result, ResultColumn, Values
 from ._errors import Refused, failure_of, is_failure
 from ._sql.statement import Parameters
-from ._sql.tables import name_of, open_catalog
+from ._storage.catalog import name_of, open_catalog
 
 if TYPE_CHECKING:
     import datetime

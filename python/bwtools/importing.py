@@ -9,15 +9,15 @@ import pathlib
 import tempfile
 from typing import Sequence
 
-from . import _errors, pairs, placing, processes, store
+from . import _errors, processes
+from ._storage import atomic, catalog, columns_file
 from ._csv.file import open_input, path_of
 from ._inference import options
 from ._types.base import Column
 from .loader.encode import processes_for
 from .loader.table import Table
-from .regular import Watched, open_regular
-from .shards import FILE, Folder, refuse_folder, shard_file
-from .store import MOST_TABLES, Store, TableFile
+from ._storage.columns_file import MOST_TABLES, Store, TableFile, Watched, open_regular
+from ._storage.catalog import FILE, Folder, refuse_folder, shard_file
 from ._identifiers import MOST_ROWS
 from ._errors import Refused, counted
 from ._progress import Waiting
@@ -35,13 +35,13 @@ def import_file(given: argparse.Namespace, out: str, is_folder: bool) -> None:
     name = _errors.table_name(given.name, out)
     path = out.rstrip("/") or "/"
     if not os.path.isdir(path):
-        placing.refuse_target(path, [path_of(given.csv)])
+        atomic.refuse_target(path, [path_of(given.csv)])
     elif not is_folder and not os.path.lexists(os.path.join(path, FILE)):
         raise Refused(f"{path} can't be overwritten: it is a folder")
     refuse_out(path)
     _errors.program()
     is_folder = is_folder or os.path.isdir(path)
-    with placing.new_folder(path) as room, open_input(given.csv) as file:
+    with atomic.new_folder(path) as room, open_input(given.csv) as file:
         table = Table(given.csv, given, room, file, is_folder)
         if len(table.coded.parts) == 1 and not is_folder:
             with Waiting().shown("the table is written"):
@@ -78,23 +78,23 @@ def verify(path: str) -> None:
                 with open_regular(folder.path_of(place)) as file:
                     verify_table(Watched(folder.path_of(place), file), record, folder.store)
             folder.store.verify()
-            pairs.refuse_changed(folder.store.watched)
+            catalog.refuse_changed(folder.store.watched)
     else:
-        with pairs.open_pair(path) as pair:
+        with catalog.open_pair(path) as pair:
             verify_table(pair.watched, pair.store.files[0], pair.store)
             pair.store.verify()
-            pairs.refuse_changed(pair.watched, pair.store.watched)
+            catalog.refuse_changed(pair.watched, pair.store.watched)
     print(f"{path} is as it was imported")
 
 
 def verify_table(watched: Watched, record: TableFile, store: Store) -> None:
     """Rejects a table file of other bytes than those that were written, or of other columns than
     the columns file has."""
-    if pairs.sum_of(watched.file) != record.sha256:
+    if catalog.sum_of(watched.file) != record.sha256:
         raise Refused(f"{watched.path} isn't as it was written: its bytes have another SHA-256")
-    if not pairs.are_columns_of(store.columns, watched.file):
+    if not catalog.are_columns_of(store.columns, watched.file):
         raise store.foreign(f"its columns aren't those of {watched.path}")
-    pairs.refuse_changed(watched)
+    catalog.refuse_changed(watched)
 
 
 def number_of_shards(text: str) -> str:
@@ -116,25 +116,25 @@ def refuse_out(path: str) -> None:
     if os.path.isdir(path) and not os.path.islink(path):
         refuse_folder(path)
         return
-    placing.refuse_target(path, [])
-    placing.refuse_target(f"{path}.columns", [])
+    atomic.refuse_target(path, [])
+    atomic.refuse_target(f"{path}.columns", [])
 
 
 def put_one(made: pathlib.Path, columns: Sequence[Column], room: pathlib.Path, name: str,
             path: str, record: TableFile | None = None) -> str:
     """Moves a table file, of which there may be a record, and its columns file to their places.
     Returns what was done."""
-    record = record or pairs.record_of(made)
-    store.write(room / "columns", columns, name, [record])
-    pairs.put_pair(room, made, room / "columns", record.sha256, path)
+    record = record or catalog.record_of(made)
+    columns_file.write(room / "columns", columns, name, [record])
+    catalog.put_pair(room, made, room / "columns", record.sha256, path)
     return f"{path} is written, as table {name}, and {path}.columns"
 
 
 def put_many(records: Sequence[TableFile], columns: Sequence[Column], room: pathlib.Path, name: str,
              path: str) -> str:
     """Moves a folder of shards to its place. Returns what was done."""
-    store.write(room / "made" / FILE, columns, name, records)
-    placing.put_folder(room / "made", path, refuse_out)
+    columns_file.write(room / "made" / FILE, columns, name, records)
+    atomic.put_folder(room / "made", path, refuse_out)
     return told(path, name, records)
 
 

@@ -9,10 +9,10 @@ import time
 from unittest import mock
 
 import bwtools
-from bwtools import shards
+from bwtools._storage import catalog
 from bwtools._cli import asking
 from bwtools._database import Database
-from bwtools._sql.tables import open_catalog
+from bwtools._storage.catalog import open_catalog
 from bwtools._errors import Failed
 
 from tests.support import BW, Imported, Running, TestCase, in_fork, imported, tool, write_script
@@ -216,13 +216,13 @@ class Connections(Changes):
         program = write_script(self.folder / "bw", f"cd '{self.folder}'; {BW} \"$@\"; sleep .02; "
                                                    "cp other.bw t.bw")
         ask = [str(self.table), record, "columns", [], "SELECT COUNT(*) FROM t"]
-        self.assertEqual(shards.ask_shard(str(BW), *ask), (0, "", b"COUNT(*)\n60\n"))
-        self.assertEqual(shards.ask_shard(str(program), *ask), (5, shards.CHANGED, b""))
+        self.assertEqual(catalog.ask_shard(str(BW), *ask), (0, "", b"COUNT(*)\n60\n"))
+        self.assertEqual(catalog.ask_shard(str(program), *ask), (5, catalog.CHANGED, b""))
         # the next one finds another table
-        self.assertEqual(shards.ask_shard(str(BW), *ask)[0], 3)
+        self.assertEqual(catalog.ask_shard(str(BW), *ask)[0], 3)
         self.setUp()
         ask[:2] = [str(self.table), open_catalog([("t", str(self.table))]).only.parts[0].record]
-        self.assertEqual(shards.ask_shard(str(self.moving()), *ask), (0, "", b"COUNT(*)\n60\n"))
+        self.assertEqual(catalog.ask_shard(str(self.moving()), *ask), (0, "", b"COUNT(*)\n60\n"))
         self.assertTrue((self.folder / "moved").exists())
 
 
@@ -255,12 +255,12 @@ class Programs(Changes):
         self.assertRegex(done.err, "\\Abw-from-numbers: t.bw.columns changed after it was opened")
 
     def test_verify(self):
-        def sum_of(file, real=importlib.import_module("bwtools.pairs").sum_of):
+        def sum_of(file, real=importlib.import_module("bwtools._storage.catalog").sum_of):
             found = real(file)
             self.change(self.table)
             return found
 
-        with mock.patch("bwtools.pairs.sum_of", sum_of):
+        with mock.patch("bwtools._storage.catalog.sum_of", sum_of):
             done = tool("bw-import", "--verify", "t.bw", cwd=self.folder)
         self.assertEqual((done.status, done.out), (5, ""))
 

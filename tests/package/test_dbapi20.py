@@ -12,7 +12,7 @@ import unittest
 
 import bwtools
 from bwtools._database import Database
-from bwtools._sql.tables import open_catalog
+from bwtools._storage.catalog import open_catalog
 
 from tests.support import imported
 

@@ -10,7 +10,8 @@ import threading
 from unittest import mock
 
 import bwtools
-from bwtools import _errors, store
+from bwtools import _errors
+from bwtools._storage import columns_file
 from bwtools._sql import plan
 
 from tests.support import (BW, PYTHON, Imported, TestCase, content, import_package, imported,
@@ -33,14 +34,14 @@ class Failures(Imported):
 class Disks(Failures):
     def full(self, *words):
         """Runs a program that may write no more than some bytes of its columns file."""
-        def write_to(*given, real=store.write_to):
+        def write_to(*given, real=columns_file.write_to):
             resource.setrlimit(resource.RLIMIT_FSIZE, (30_000, 30_000))
             real(*given)
 
         before = content(self.folder)
         # here, or it would import a table with the limit
         import_package()
-        with mock.patch("bwtools.store.write_to", write_to):
+        with mock.patch("bwtools._storage.columns_file.write_to", write_to):
             done = tool(*words, cwd=self.folder)
         self.assertEqual(content(self.folder), before)
         return done

@@ -7,9 +7,10 @@ import tempfile
 import unittest
 from unittest import mock
 
-from bwtools import importing, pairs, placing, store
+from bwtools import importing
+from bwtools._storage import atomic, catalog, columns_file
 from bwtools._types.base import Column
-from bwtools.shards import FILE, Folder, shard_file
+from bwtools._storage.catalog import FILE, Folder, shard_file
 
 from tests.support import in_fork, texts
 
@@ -23,16 +24,16 @@ class Folders(unittest.TestCase):
 
     def put(self, content, count=2):
         """Puts a folder of shards in place, each of this content, which is a text too."""
-        with placing.new_folder(self.path) as room:
+        with atomic.new_folder(self.path) as room:
             made = room / "made"
             made.mkdir()
             records = []
             for place in range(count):
                 path = shard_file(made, place)
                 path.write_text(content)
-                records.append(pairs.record_of(path, path.name, 1))
-            store.write(made / FILE, [Column("a", "a", texts(content))], "t", records)
-            placing.put_folder(made, str(self.path), importing.refuse_out)
+                records.append(catalog.record_of(path, path.name, 1))
+            columns_file.write(made / FILE, [Column("a", "a", texts(content))], "t", records)
+            atomic.put_folder(made, str(self.path), importing.refuse_out)
 
     def found(self):
         """Returns the contents of the shards, and the text of their columns file."""
@@ -40,20 +41,20 @@ class Folders(unittest.TestCase):
             contents = []
             for place, record in enumerate(folder.shards):
                 with open(folder.path_of(place), "rb") as file:
-                    self.assertTrue(pairs.is_of(record, file))
+                    self.assertTrue(catalog.is_of(record, file))
                     contents.append(file.read().decode())
             self.assertEqual(folder.foreign_files(), [])
             return contents, list(folder.columns[0].kind.listed)
 
     def killed(self, content, is_done):
         """Puts a folder in a process that is killed before the folders are exchanged, or after."""
-        def exchange(one, other, real=placing.exchange):
+        def exchange(one, other, real=atomic.exchange):
             if is_done:
                 real(one, other)
             os.kill(os.getpid(), signal.SIGKILL)
 
         def put():
-            with mock.patch("bwtools.placing.exchange", exchange):
+            with mock.patch("bwtools._storage.atomic.exchange", exchange):
                 self.put(content, 3)
 
         return os.waitpid(in_fork(put), 0)[1]

@@ -7,7 +7,7 @@ import unittest
 from fractions import Fraction
 from unittest import mock
 
-from bwtools import store
+from bwtools._storage import columns_file
 from bwtools._types import kinds
 from bwtools._types.base import Column
 from bwtools._types.dictionary import SortedList
@@ -20,7 +20,7 @@ from bwtools._sql.parser import parse
 from bwtools._sql.pushdown import Comparand
 from bwtools._sql.statement import Statement
 from bwtools._sql.syntax import Literal, walk
-from bwtools._sql.tables import Catalog, Table
+from bwtools._storage.catalog import Catalog, Table
 from bwtools._errors import Refused
 from tests.support import texts
 
@@ -57,8 +57,8 @@ class OverTable(unittest.TestCase):
         cls.addClassCleanup(cls.stack.close)
         folder = cls.stack.enter_context(tempfile.TemporaryDirectory(prefix="unittests-"))
         path = pathlib.Path(folder) / "columns"
-        store.write(path, columns(), "t")
-        cls.store = cls.stack.enter_context(contextlib.closing(store.Store(path)))
+        columns_file.write(path, columns(), "t")
+        cls.store = cls.stack.enter_context(contextlib.closing(columns_file.Store(path)))
         cls.table = Table("t", "t", cls.store.columns, [])
         cls.catalog = Catalog([cls.table])
 

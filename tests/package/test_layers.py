@@ -11,26 +11,24 @@ LAYERS = """
     __init__ _cli.__init__ _cli.statements _identifiers _progress _types.number_format
      +loader.dictionary processes
     _errors _types.base
-    _csv.dialect _engine.process _types.dictionary _types.numbers _types.temporal placing
-     +regular
+    _csv.dialect _engine.process _storage.atomic _types.dictionary _types.numbers
+     +_types.temporal
     _csv.reader _engine.executor _inference.options _sql.lexer _types.kinds
-    _csv.file _inference.fields _result loader.reporting store
-    _aggregation _dataframes _inference.ambiguity _output loader.feed pairs
-    _inference.detectors _sql.cost loader.encode shards
-    _engine.cluster _inference.infer _sql.tables
-    _cli.shell _sql.syntax loader.numbers
-    _sql.expressions _sql.literals _sql.parser loader.table
-    _sql.pushdown _sql.resolve importing
-    _cli.options _sql.prepare _sql.questions _sql.render _sql.validate
-    _cli.from_numbers _cli.import_ _cli.to_numbers _sql.groups _sql.listing _sql.statement
-    _sql.by_sqlite _sql.plan
-    _database
-    _cli.asking _dbapi
+    _inference.fields _result _storage.columns_file loader.reporting
+    _aggregation _csv.file _dataframes _output _storage.catalog
+    _cli.shell _engine.cluster _inference.ambiguity _sql.cost _sql.syntax loader.feed
+    _inference.detectors _sql.expressions _sql.literals _sql.parser loader.encode
+    _inference.infer _sql.pushdown _sql.resolve
+    _sql.prepare _sql.questions _sql.render _sql.validate loader.numbers
+    _sql.groups _sql.listing _sql.statement loader.table
+    _sql.by_sqlite _sql.plan importing
+    _cli.options _database
+    _cli.asking _cli.from_numbers _cli.import_ _cli.to_numbers _dbapi
     _cli.ask _cli.shards""".replace("\n     +", " ").split("\n")[1:]
 PLACES = {name: place for place, line in enumerate(LAYERS) for name in line.split()}
 # modules without code of their own
 EMPTY = ("_csv.__init__", "_engine.__init__", "_inference.__init__", "_sql.__init__",
-         "_types.__init__", "judges.__init__", "loader.__init__")
+         "_storage.__init__", "_types.__init__", "loader.__init__")
 
 
 def is_for_types(node):

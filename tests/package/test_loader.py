@@ -10,11 +10,12 @@ import unittest
 from array import array
 from unittest import mock
 
-from bwtools import importing, pairs
+from bwtools import importing
+from bwtools._storage import catalog
 from bwtools._cli import import_
 from bwtools.loader import dictionary, encode, feed
 from bwtools.loader.dictionary import ByteFile, merge, read_fields
-from bwtools.shards import Folder
+from bwtools._storage.catalog import Folder
 from bwtools._csv.dialect import Signs
 from bwtools._errors import Refused
 
@@ -190,7 +191,7 @@ class Parts(TestCase):
         path = self.folder / out
         files = sorted(path.glob("shard-*")) if path.is_dir() else [path]
         rows = [bw("dump", file).out.splitlines()[1:] for file in files]
-        opened = Folder(str(path)) if path.is_dir() else pairs.open_pair(path)
+        opened = Folder(str(path)) if path.is_dir() else catalog.open_pair(path)
         columns = opened.columns if path.is_dir() else opened.store.columns
         found = list(map(described, columns))
         opened.close() if path.is_dir() else opened.__exit__()

@@ -10,7 +10,7 @@ import unittest
 import zlib
 from unittest import mock
 
-from bwtools import pairs, placing, store
+from bwtools._storage import atomic, catalog, columns_file
 from bwtools._types.base import Column
 from bwtools._errors import Refused
 
@@ -37,8 +37,8 @@ class Verified(Imported):
         with contextlib.closing(sqlite3.connect(path, isolation_level=None)) as made:
             made.executescript(sql)
             if is_forged:
-                head = [made.execute(each).fetchall() for each in store.HEAD]
-                made.execute("UPDATE sums SET sum = ?", (store.sum_of_head(head),))
+                head = [made.execute(each).fetchall() for each in columns_file.HEAD]
+                made.execute("UPDATE sums SET sum = ?", (columns_file.sum_of_head(head),))
         found = self.told(name.partition("/")[0].removesuffix(".columns"))
         path.write_bytes(before)
         os.utime(path, ns=(told.st_mtime_ns, told.st_mtime_ns))
@@ -87,16 +87,17 @@ class Pairs(unittest.TestCase):
     def put(self, content):
         """Puts a pair in place: a header and this content, and a columns file that has it as a
         text."""
-        with placing.new_folder(self.table) as folder:
+        with atomic.new_folder(self.table) as folder:
             made, columns = folder / "table.bw", folder / "columns"
             made.write_bytes(HEADER + content.encode())
-            record = pairs.record_of(made)
-            store.write(columns, [Column("a", "A é", texts(content), why="so")], "t", [record])
-            pairs.put_pair(folder, made, columns, record.sha256, self.table)
+            record = catalog.record_of(made)
+            column = Column("a", "A é", texts(content), why="so")
+            columns_file.write(columns, [column], "t", [record])
+            catalog.put_pair(folder, made, columns, record.sha256, self.table)
 
     def found(self):
         """Returns the content of the table file, and the text of its columns file."""
-        with pairs.open_pair(self.table) as pair:
+        with catalog.open_pair(self.table) as pair:
             data = pair.file.read()
             self.assertEqual(data[:len(HEADER)], HEADER)
             return data[len(HEADER):].decode(), list(pair.store.columns[0].kind.listed)
@@ -105,7 +106,7 @@ class Pairs(unittest.TestCase):
         return sorted(os.listdir(self.folder))
 
     def test_what_was_written_is_read(self):
-        with pairs.open_pair(self.table) as pair:
+        with catalog.open_pair(self.table) as pair:
             record, = pair.store.files
             self.assertEqual((pair.store.name, record.size, record.file),
                              ("t", len(HEADER) + 7, ""))
@@ -136,15 +137,15 @@ class Pairs(unittest.TestCase):
 
     def test_columns_of_no_table(self):
         self.columns.unlink()
-        store.write(self.columns, [Column("a", "a", texts("x"))])
+        columns_file.write(self.columns, [Column("a", "a", texts("x"))])
         with self.assertRaisesRegex(Refused, "belongs to no table"):
             self.found()
 
     def test_beside_what_a_symlink_stands_for(self):
         link = self.folder / "link.bw"
         link.symlink_to(self.table)
-        self.assertEqual(pairs.columns_beside(link), os.path.realpath(self.columns))
-        self.assertEqual(pairs.columns_beside(self.table), str(self.columns))
+        self.assertEqual(catalog.columns_beside(link), os.path.realpath(self.columns))
+        self.assertEqual(catalog.columns_beside(self.table), str(self.columns))
 
     def killed(self, content, moves):
         """Puts a pair in a process that is killed before its next move after so many."""

@@ -8,7 +8,7 @@ import unittest
 
 from bwtools._sql.lexer import tokens_of
 from bwtools._sql.statement import Statement
-from bwtools._sql.tables import open_catalog
+from bwtools._storage.catalog import open_catalog
 from bwtools._errors import Refused
 
 from tests.support import Imported

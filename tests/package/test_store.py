@@ -8,11 +8,11 @@ import tempfile
 import time
 import unittest
 
-from bwtools import store
+from bwtools._storage import columns_file
 from bwtools._types import dictionary, kinds
 from bwtools._types.base import Column
 from bwtools._types.dictionary import SortedList
-from bwtools.store import Store, TableFile
+from bwtools._storage.columns_file import Store, TableFile
 from bwtools._types.number_format import Style
 from bwtools._errors import Refused
 
@@ -38,7 +38,7 @@ class Files(unittest.TestCase):
 
     def write(self, columns=COLUMNS):
         self.path.unlink(missing_ok=True)
-        store.write(self.path, columns, "t", FILES)
+        columns_file.write(self.path, columns, "t", FILES)
 
 
 class Whole(Files):
@@ -72,8 +72,8 @@ class Whole(Files):
         values = (-1e300, -0.5, 0.0, 5e-324, 1.5, 1e300, float("inf"))
         path = self.path.with_name("doubles")
         with contextlib.closing(sqlite3.connect(path, isolation_level=None)) as made:
-            self.assertEqual(store.write_list(made, 0, values, 5), len(values))
-            listed = store.StoredList(made, 0, len(values), float, 5, "a")
+            self.assertEqual(columns_file.write_list(made, 0, values, 5), len(values))
+            listed = columns_file.StoredList(made, 0, len(values), float, 5, "a")
             self.assertEqual((list(listed), listed.place(1.0), listed.place(1.5)),
                              (list(values), (3, False), (4, True)))
 
@@ -194,8 +194,8 @@ class Foreign(Files):
             for sql in statements:
                 made.execute(sql)
             with contextlib.suppress(sqlite3.Error):
-                head = [made.execute(sql).fetchall() for sql in store.HEAD]
-                made.execute("UPDATE sums SET sum = ?", (store.sum_of_head(head),))
+                head = [made.execute(sql).fetchall() for sql in columns_file.HEAD]
+                made.execute("UPDATE sums SET sum = ?", (columns_file.sum_of_head(head),))
 
     def test_what_the_sum_covers(self):
         """Whatever changes without the sum is refused, though each field might be one."""
@@ -307,7 +307,7 @@ class Foreign(Files):
         with contextlib.closing(sqlite3.connect(self.path, isolation_level=None)) as made:
             other = self.path.with_name("other")
             files = [TableFile("shard-001.bw", 5, 7, 1 << 60, 1 << 40, "cd" * 32, 1 << 31)]
-            store.write(other, [Column("a", "a", texts("p", "q"))], "t", files)
+            columns_file.write(other, [Column("a", "a", texts("p", "q"))], "t", files)
             with contextlib.closing(sqlite3.connect(other)) as from_there:
                 row = from_there.execute("SELECT * FROM values_0").fetchone()
             made.execute("DELETE FROM values_0")

@@ -11,7 +11,7 @@ from bwtools._sql.lexer import tokens_of
 from bwtools._sql.parser import RESERVED, Unexpected, parse
 from bwtools._sql.statement import Statement
 from bwtools._sql.syntax import children, walk
-from bwtools._sql.tables import Catalog
+from bwtools._storage.catalog import Catalog
 from bwtools._errors import Refused
 
 from tests import drawn_numbers, drawn_select, selects, support

@@ -8,7 +8,7 @@ import tempfile
 import unittest
 from unittest import mock
 
-from bwtools import placing
+from bwtools._storage import atomic
 from bwtools.loader import encode
 from bwtools.loader.table import Table
 from bwtools._errors import Refused
@@ -99,34 +99,34 @@ class Files(unittest.TestCase):
         file.touch()
         link.symlink_to(file)
         os.mkfifo(pipe)
-        placing.refuse_target(file, [self.folder / "other"])
-        placing.refuse_target(self.folder / "none", [])
+        atomic.refuse_target(file, [self.folder / "other"])
+        atomic.refuse_target(self.folder / "none", [])
         for path, sources, wanted in [(link, [], "a symlink"), (pipe, [], "a FIFO"),
                                       (self.folder, [], "a folder"),
                                       (os.devnull, [], "a device"),
                                       (file, [link], "is the file to read")]:
             with self.subTest(wanted), self.assertRaisesRegex(Refused, wanted):
-                placing.refuse_target(path, sources)
+                atomic.refuse_target(path, sources)
 
     def test_all_files_are_put_or_none(self):
         for each in ("one", "two"):
             (self.folder / each).write_text(each, encoding="utf-8")
         (self.folder / "first").write_text("before", encoding="utf-8")
         with self.assertRaises(OSError):
-            placing.put(self.folder, [(self.folder / "one", self.folder / "first"),
+            atomic.put(self.folder, [(self.folder / "one", self.folder / "first"),
                                       (self.folder / "two", self.folder / "no" / "where")])
         self.assertEqual((self.folder / "first").read_text(encoding="utf-8"), "before")
         (self.folder / "one").write_text("one", encoding="utf-8")
-        placing.put(self.folder, [(self.folder / "one", self.folder / "first"),
+        atomic.put(self.folder, [(self.folder / "one", self.folder / "first"),
                                   (self.folder / "two", self.folder / "second")])
         self.assertEqual([(self.folder / each).read_text(encoding="utf-8")
                           for each in ("first", "second")], ["one", "two"])
 
     def test_new_folder_is_gone(self):
-        with placing.new_folder(self.folder / "out") as folder:
+        with atomic.new_folder(self.folder / "out") as folder:
             self.assertEqual(folder.parent, self.folder)
         self.assertFalse(folder.exists())
         with self.assertRaisesRegex(Refused,
                                     "isn't a folder"), \
-                placing.new_folder(self.folder / "no" / "out"):
+                atomic.new_folder(self.folder / "no" / "out"):
             pass

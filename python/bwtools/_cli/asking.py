@@ -14,7 +14,7 @@ from .._output import Writer, writer_of
 from .._result import Result
 from .._errors import Refused, counted, failure_of, is_failure
 from .._identifiers import is_name
-from .._sql.tables import name_of, open_catalog
+from .._storage.catalog import name_of, open_catalog
 from .._progress import Waiting
 from .options import AnswerOptions
 

@@ -18,11 +18,11 @@ import io
 import os
 import sys
 
-from .. import _errors, pairs
+from .. import _errors
+from .._storage import catalog
 from .._inference import options
 from .._output import turn_back
-from ..regular import open_regular
-from ..store import Store
+from .._storage.columns_file import Store, open_regular
 from .options import new_parser
 
 NAME = "bw-from-numbers"
@@ -36,10 +36,10 @@ def work(given: argparse.Namespace) -> None:
         table = given.columns.removesuffix(".columns")
         if found.files and os.path.exists(table) and table != given.columns:
             with open_regular(table) as file:
-                if not pairs.is_of(found.files[0], file):
-                    raise pairs.foreign(given.columns, table)
+                if not catalog.is_of(found.files[0], file):
+                    raise catalog.foreign(given.columns, table)
         turn_back(found.columns, answer, sys.stdout)
-        pairs.refuse_changed(found.watched)
+        catalog.refuse_changed(found.watched)
 
 
 def parser_of() -> argparse.ArgumentParser:

@@ -22,7 +22,7 @@ import sys
 
 from .. import _errors, importing
 from .._inference import options
-from .._sql.tables import name_of
+from .._storage.catalog import name_of
 from .asking import ask
 from .options import add_asking, add_loading, new_parser, options_of
 

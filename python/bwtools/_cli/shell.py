@@ -11,7 +11,7 @@ from .. import _errors
 from .._output import FORMATS
 from .._errors import Refused, counted, failure_of, is_failure
 from .._identifiers import is_name
-from .._sql.tables import Table
+from .._storage.catalog import Table
 from .statements import Splitter
 
 if TYPE_CHECKING:

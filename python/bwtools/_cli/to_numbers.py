@@ -15,7 +15,8 @@ import argparse
 import pathlib
 import sys
 
-from .. import _errors, placing, store
+from .. import _errors
+from .._storage import atomic, columns_file
 from .._csv.file import path_of
 from .._inference import options
 from ..loader.table import Table, write_numbers
@@ -29,12 +30,12 @@ def work(given: argparse.Namespace) -> None:
     stem = out.name.removesuffix(".csv") or out.name
     columns = out.with_name(f"{stem}.columns")
     for path in (out, columns):
-        placing.refuse_target(path, [path_of(given.csv)])
-    with placing.new_folder(out) as folder:
+        atomic.refuse_target(path, [path_of(given.csv)])
+    with atomic.new_folder(out) as folder:
         table = Table(given.csv, given, folder)
         write_numbers(table, folder, folder / "numbers.csv")
-        store.write(folder / "columns", table.columns)
-        placing.put(folder, [(folder / "columns", columns), (folder / "numbers.csv", out)])
+        columns_file.write(folder / "columns", table.columns)
+        atomic.put(folder, [(folder / "columns", columns), (folder / "numbers.csv", out)])
     # last, since its reader may stop early, as head does
     table.report()
     print(f"{out} and {columns} are written")

@@ -14,8 +14,8 @@ from typing import Any, Callable, Iterator, Sequence
 
 from .. import _errors
 from .._errors import Failed, Refused
-from ..shards import Reply, ask_shard, is_of_statement
-from ..store import TableFile
+from .._storage.catalog import Reply, ask_shard, is_of_statement
+from .._storage.columns_file import TableFile
 from .executor import Part
 
 MISSING = "Dask's distributed isn't installed for {} (python3-distributed of Debian)"

@@ -15,7 +15,7 @@ from .prepare import reads_of, told
 from .pushdown import pushed
 from .render import Renderer
 from .statement import Statement
-from .tables import Catalog, Table
+from .._storage.catalog import Catalog, Table
 from .validate import inner_sum, is_exact, refuse_doubles, whole_sums
 
 # so many rows are listed without being asked for, and so many conditions' rows are kept

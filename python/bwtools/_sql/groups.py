@@ -27,7 +27,7 @@ from .questions import aggregate_of, limits_of
 from .resolve import place_of
 from .syntax import (Between, Call, Case, Cast, ColumnName, Comparison, InList, Item, Like, Literal,
                      Node, NullTest, Operation, Query, Select, Unary)
-from .tables import Table
+from .._storage.catalog import Table
 from .validate import NO_DOUBLE, refuse_doubles
 
 # so many groups are counted by statements at most, and only if the rows that those scan are no more

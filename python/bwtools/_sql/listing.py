@@ -15,7 +15,7 @@ from .._errors import Failed
 from .._types.kinds import undressed
 from .lexer import quoted_name
 from .prepare import Guard, declare, declared
-from .tables import Catalog, Table
+from .._storage.catalog import Catalog, Table
 
 # after how many of SQLite's instructions a signal is noticed
 INSTRUCTIONS = 20_000

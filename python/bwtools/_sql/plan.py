@@ -12,7 +12,7 @@ from .._types.base import Column
 from .pushdown import single
 from .statement import Statement
 from .syntax import Call, walk
-from .tables import Table
+from .._storage.catalog import Table
 from .questions import Totals, totals_of
 
 if TYPE_CHECKING:

@@ -16,7 +16,7 @@ from .._errors import Refused
 from .lexer import JOINS, MOMENTS, MOST_SHOWN, RESERVED as NO_NAMES, Token, quoted_name, short
 from .resolve import HIDDEN
 from .syntax import Call, ColumnName, Node, Query, Row, Select, Window, walk
-from .tables import Catalog, missing
+from .._storage.catalog import Catalog, missing
 
 # actions of SQLite that Python's module doesn't name
 RECURSIVE = 33

@@ -21,7 +21,7 @@ from .lexer import TEXT
 from .literals import Constant, constant_of
 from .syntax import (Between, ColumnName, Comparison, InList, InQuery, Like, Literal, Node,
                      NullTest, Operation, Query, Select, Subquery, TableSource, Unary, walk)
-from .tables import Table
+from .._storage.catalog import Table
 
 if TYPE_CHECKING:
     from fractions import Fraction

@@ -12,7 +12,7 @@ from .lexer import NUMBER, TEXT
 from .pushdown import condition_of, direct_column
 from .resolve import place_of
 from .syntax import Call, Literal, Node, OrderTerm, Query, Select, Unary
-from .tables import Table
+from .._storage.catalog import Table
 
 
 def totals_of(tree: Query, select: Select) -> list[Aggregate]:

@@ -10,7 +10,7 @@ from .expressions import meaning
 from .syntax import (ColumnName, Common, FromItem, Item, Literal, Name, NestedSources, Node,
                      Output, Query, QuerySource, Scope, Select, Source, TableSource, Unary, bare,
                      children)
-from .tables import Catalog, missing
+from .._storage.catalog import Catalog, missing
 
 # how the names of SQLite's own tables begin
 HIDDEN = ("sqlite_", "pragma_")

@@ -11,7 +11,7 @@ from .prepare import Emptied
 from .render import Renderer
 from .resolve import resolve
 from .syntax import Literal, Output, walk
-from .tables import Catalog
+from .._storage.catalog import Catalog
 from .validate import validate
 
 

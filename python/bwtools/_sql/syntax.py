@@ -7,7 +7,7 @@ from __future__ import annotations
 from typing import TYPE_CHECKING, Iterable, Iterator, Optional, Sequence, Tuple
 
 from .._types.base import Column, Kind
-from .tables import Table
+from .._storage.catalog import Table
 
 if TYPE_CHECKING:
     from fractions import Fraction

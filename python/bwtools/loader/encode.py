@@ -13,7 +13,8 @@ import sys
 from dataclasses import dataclass
 from typing import Any, Collection, Optional, Sequence
 
-from .. import _errors, pairs, processes
+from .. import _errors, processes
+from .._storage import catalog
 from .._csv.dialect import Signs
 from .._csv.file import Source
 from .._identifiers import MOST_BYTES, MOST_ROWS
@@ -87,7 +88,7 @@ def encode(feed: Feed, table: pathlib.Path, fields: pathlib.Path, fills: bool) -
 def coded_at(path: pathlib.Path) -> Coded:
     """Returns what the header of a table file says."""
     with open(path, "rb") as file:
-        data, columns = pairs.header_of(file)
+        data, columns = catalog.header_of(file)
     return Coded(path, int.from_bytes(data[12:16], "little"),
                  [(least, greatest) for _, least, greatest in columns])
 

@@ -20,9 +20,9 @@ from .._inference.ambiguity import Decision
 from .._types.kinds import Whole
 from .._identifiers import MOST_BYTES, MOST_CHARACTERS, MOST_ROWS, names_of
 from .._types.number_format import SIMPLE
-from ..pairs import record_of
+from .._storage.catalog import record_of
 from .._csv.file import Source
-from ..store import TableFile
+from .._storage.columns_file import TableFile
 from .._errors import Refused, counted
 from .._progress import Waiting
 from .._inference.options import Wishes, wishes_of

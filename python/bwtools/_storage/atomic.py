@@ -14,7 +14,7 @@ import stat
 import tempfile
 from typing import Any, Callable, Iterable, Iterator
 
-from ._errors import Refused
+from .._errors import Refused
 
 PREFIX, MADE = ".bw-part-", re.compile(r"\.bw-part-[a-z0-9_]{8}")
 # of renameat2

@@ -1,0 +1,1 @@
+"""Tables in files: their columns files, their shards, and how they are replaced."""
