@@ -24,7 +24,7 @@ import warnings
 from typing import Any, Callable, Iterable, NamedTuple, Sequence, TypeVar
 
 import bwtools
-from bwtools import importing
+from bwtools.loader import importing
 from bwtools._types import kinds
 from bwtools._inference.options import add_options, parsed
 from bwtools._cli import import_

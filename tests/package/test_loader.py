@@ -10,10 +10,9 @@ import unittest
 from array import array
 from unittest import mock
 
-from bwtools import importing
+from bwtools.loader import dictionary, encode, importing
 from bwtools._storage import catalog
 from bwtools._cli import import_
-from bwtools.loader import dictionary, encode, feed
 from bwtools.loader.dictionary import ByteFile, merge, read_fields
 from bwtools._storage.catalog import Folder
 from bwtools._csv.dialect import Signs
@@ -117,7 +116,7 @@ class Together(unittest.TestCase):
 
         def anew(source, marked):
             width = len(source.headings)
-            return feed.RecordFeed(source, marked, feed.heading_of(width))
+            return encode.RecordFeed(source, marked, encode.heading_of(width))
 
         for patch in (mock.patch("bwtools.loader.encode.feed_of", anew),
                       mock.patch("bwtools.loader.table.MARKED", frozenset({0, 1}))):
@@ -350,13 +349,13 @@ class Places(unittest.TestCase):
         with tempfile.TemporaryFile() as file:
             file.write(data)
             file.flush()
-            index = feed.Index(file, signs, 0)
+            index = encode.Index(file, signs, 0)
             self.assertEqual(index.count, count)
             for number in range(count + 1):
                 place = index.place_after(number)
                 for part, wanted in ((data[:place], number), (data[place:], count - number)):
                     lines = io.StringIO(part.decode("latin-1"), newline="")
-                    read = feed.csv.reader(lines, delimiter=signs.separator, quotechar=signs.quote)
+                    read = csv.reader(lines, delimiter=signs.separator, quotechar=signs.quote)
                     rows = [row for row in read if row and not (
                         signs.comment and row[0].startswith(signs.comment))]
                     self.assertEqual(len(rows), wanted, (data, number, place))
@@ -365,8 +364,8 @@ class Places(unittest.TestCase):
         draw = random.Random(16)
         for at_once in (16, 1 << 20):
             for every in (1, 3, 1 << 12):
-                with mock.patch.object(feed, "BYTES_AT_ONCE", at_once), \
-                        mock.patch.object(feed, "EVERY", every):
+                with mock.patch.object(encode, "BYTES_AT_ONCE", at_once), \
+                        mock.patch.object(encode, "EVERY", every):
                     for _ in range(25):
                         signs = draw.choice([Signs(), Signs(";", "'"), Signs(comment="#")])
                         rows = [[draw.choice(["a", "é", "b\nc", "\r\n", "", signs.quote, "x" * 30])

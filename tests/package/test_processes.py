@@ -4,7 +4,7 @@ import signal
 import time
 import unittest
 
-from bwtools import processes
+from bwtools.loader import encode
 from bwtools._errors import Refused
 
 
@@ -16,16 +16,16 @@ def refuse(part):
 
 class Parts(unittest.TestCase):
     def test_results_come_in_order(self):
-        self.assertEqual(processes.do_parts(4, lambda part: part * part), [0, 1, 4, 9])
-        self.assertEqual(processes.do_parts(1, lambda part: "alone"), ["alone"])
+        self.assertEqual(encode.do_parts(4, lambda part: part * part), [0, 1, 4, 9])
+        self.assertEqual(encode.do_parts(1, lambda part: "alone"), ["alone"])
 
     def test_what_a_process_raises_is_raised(self):
         with self.assertRaisesRegex(Refused, "part 2 is refused"):
-            processes.do_parts(4, refuse)
+            encode.do_parts(4, refuse)
 
     def test_a_process_that_ends_without_a_word(self):
         with self.assertRaises(ChildProcessError):
-            processes.do_parts(2, lambda part: part and os.kill(os.getpid(), signal.SIGKILL))
+            encode.do_parts(2, lambda part: part and os.kill(os.getpid(), signal.SIGKILL))
 
     def test_no_process_is_left(self):
         def interrupt(part):
@@ -35,7 +35,7 @@ class Parts(unittest.TestCase):
 
         begun = time.monotonic()
         with self.assertRaises(KeyboardInterrupt):
-            processes.do_parts(3, interrupt)
+            encode.do_parts(3, interrupt)
         self.assertLess(time.monotonic() - begun, 30)
         with self.assertRaises(ChildProcessError):
             os.waitpid(-1, os.WNOHANG)
@@ -43,7 +43,7 @@ class Parts(unittest.TestCase):
 
 class Aside(unittest.TestCase):
     def test_aside(self):
-        self.assertEqual(processes.Aside(lambda: 5).result(), 5)
-        refused = processes.Aside(lambda: refuse(2))
+        self.assertEqual(encode.Aside(lambda: 5).result(), 5)
+        refused = encode.Aside(lambda: refuse(2))
         with self.assertRaisesRegex(Refused, "part 2 is refused"):
             refused.result()

@@ -27,7 +27,8 @@ from __future__ import annotations
 import argparse
 import sys
 
-from .. import _errors, importing
+from .. import _errors
+from ..loader import importing
 from .._inference import options
 from .options import add_import, new_parser
 

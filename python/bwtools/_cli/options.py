@@ -66,7 +66,7 @@ def add_asking(parser: argparse.ArgumentParser) -> None:
 
 def add_loading(parser: argparse.ArgumentParser) -> None:
     """Adds what a command has that loads a folder of shards."""
-    from .. import importing
+    from ..loader import importing
     from .._inference import options
     parser.add_argument("csv", metavar="RAW.csv", help=options.RAW)
     parser.add_argument("folder", metavar="FOLDER", nargs="?",
@@ -85,7 +85,7 @@ def add_loading(parser: argparse.ArgumentParser) -> None:
 
 def add_import(parser: argparse.ArgumentParser) -> None:
     """Adds what the program has that imports a table."""
-    from .. import importing
+    from ..loader import importing
     from .._inference import options
     parser.add_argument("csv", metavar="RAW.csv", help=options.RAW)
     parser.add_argument("table", metavar="TABLE.bw", nargs="?",

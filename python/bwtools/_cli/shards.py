@@ -20,7 +20,8 @@ from __future__ import annotations
 import argparse
 import sys
 
-from .. import _errors, importing
+from .. import _errors
+from ..loader import importing
 from .._inference import options
 from .._storage.catalog import name_of
 from .asking import ask

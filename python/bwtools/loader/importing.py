@@ -9,18 +9,19 @@ import pathlib
 import tempfile
 from typing import Sequence
 
-from . import _errors, processes
-from ._storage import atomic, catalog, columns_file
-from ._csv.file import open_input, path_of
-from ._inference import options
-from ._types.base import Column
-from .loader.encode import processes_for
-from .loader.table import Table
-from ._storage.columns_file import MOST_TABLES, Store, TableFile, Watched, open_regular
-from ._storage.catalog import FILE, Folder, refuse_folder, shard_file
-from ._identifiers import MOST_ROWS
-from ._errors import Refused, counted
-from ._progress import Waiting
+from .. import _errors
+from .._csv.file import open_input, path_of
+from .._errors import Refused, counted
+from .._identifiers import MOST_ROWS
+from .._inference import options
+from .._progress import Waiting
+from .._storage import atomic, catalog, columns_file
+from .._storage.catalog import FILE, Folder, refuse_folder, shard_file
+from .._storage.columns_file import MOST_TABLES, Store, TableFile, Watched, open_regular
+from .._types.base import Column
+from . import encode
+from .encode import processes_for
+from .table import Table
 
 
 def dry_run(given: argparse.Namespace) -> None:
@@ -65,7 +66,7 @@ def load_shards(table: Table, room: pathlib.Path, name: str) -> list[TableFile]:
         return [table.record(place, name, shard_file(room / "made", place))
                 for place in range(process, shards, count)]
 
-    found = processes.do_parts(count, load_some)
+    found = encode.do_parts(count, load_some)
     return [found[place % count][place // count] for place in range(shards)]
 
 
