@@ -19,7 +19,7 @@ from typing import Any, Callable, Iterator, List, NamedTuple, Sequence, Tuple
 import tests  # noqa: F401  finds bwtools
 import bwtools
 from bwtools._sql import plan
-from bwtools._sql.statement import Statement
+from bwtools._sql.plan import Statement
 from bwtools._errors import Refused
 from tests import reference, support
 

@@ -13,7 +13,7 @@ from typing import Any, Callable, Iterable, Iterator, Sequence
 
 import bwtools
 from bwtools._sql import plan
-from bwtools._sql.statement import Statement
+from bwtools._sql.plan import Statement
 from bwtools._errors import Refused
 
 from tests import support

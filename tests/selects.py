@@ -23,7 +23,7 @@ import bwtools
 from bwtools._sql import plan
 from bwtools._sql.lexer import tokens_of
 from bwtools._sql.parser import parse
-from bwtools._sql.statement import Statement
+from bwtools._sql.plan import Statement
 from bwtools._errors import Refused
 from tests import drawn_select, reference, support
 from tests.drawn_select import LONG, TABLES, TYPES, Pair

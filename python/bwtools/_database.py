@@ -9,7 +9,7 @@ from typing import TYPE_CHECKING, Any, Callable, Sequence, TypeVar
 from ._engine.executor import Asker, Engine, Local
 from ._result import Result
 from ._sql import plan
-from ._sql.statement import Parameters, Statement
+from ._sql.plan import Parameters, Statement
 from ._storage.catalog import Catalog, Table
 from ._types.base import Column
 from ._errors import Failed, Refused

@@ -15,7 +15,7 @@ import unittest
 
 from bwtools import _output
 from bwtools._cli.asking import split
-from bwtools._cli.statements import statements_in
+from bwtools._cli.shell import statements_in
 from bwtools._result import Result, ValueRows
 from bwtools._types.kinds import Styled, Whole
 from bwtools._types.numbers import Decimals, Truths

@@ -9,9 +9,9 @@ import bwtools
 from bwtools._types import kinds
 from bwtools._aggregation import Aggregate
 from bwtools._result import columns_of
-from bwtools._sql import cost
+from bwtools._sql import groups
 from bwtools._sql.by_sqlite import text_of
-from bwtools._sql.statement import Statement
+from bwtools._sql.plan import Statement
 from bwtools._types.base import Column
 
 from tests.support import Imported
@@ -43,13 +43,13 @@ class Cost(unittest.TestCase):
                 ((500, 500, 1, added, 2), False), ((rows, 300, 1, added, 2), False),
                 ((rows, 50_000, 1, added, 0), True), ((rows, rows, 2, added, 3), True)]:
             with self.subTest(given):
-                self.assertEqual(cost.is_sqlite_quicker(*given), wanted)
+                self.assertEqual(groups.is_sqlite_quicker(*given), wanted)
 
     def test_groups_at_most(self):
         whole = {"MIN(c)": 3, "MAX(c)": 12}
-        self.assertEqual(cost.groups_at_most([COLUMN], whole, 100), 11)
-        self.assertEqual(cost.groups_at_most([COLUMN, COLUMN], whole, 100), 100)
-        self.assertEqual(cost.groups_at_most([COLUMN], {"MIN(c)": None, "MAX(c)": None}, 9), 1)
+        self.assertEqual(groups.groups_at_most([COLUMN], whole, 100), 11)
+        self.assertEqual(groups.groups_at_most([COLUMN, COLUMN], whole, 100), 100)
+        self.assertEqual(groups.groups_at_most([COLUMN], {"MIN(c)": None, "MAX(c)": None}, 9), 1)
 
 
 class Quicker(Imported):

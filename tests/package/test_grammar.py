@@ -13,12 +13,12 @@ from bwtools._types.base import Column
 from bwtools._types.dictionary import SortedList
 from bwtools._engine.executor import Outside
 from bwtools._result import Limits
-from bwtools._sql import plan, pushdown, questions
+from bwtools._sql import plan, pushdown
 from bwtools._sql.lexer import tokens_of
 from bwtools._sql.literals import Constant, evaluate
 from bwtools._sql.parser import parse
 from bwtools._sql.pushdown import Comparand
-from bwtools._sql.statement import Statement
+from bwtools._sql.plan import Statement
 from bwtools._sql.syntax import Literal, walk
 from bwtools._storage.catalog import Catalog, Table
 from bwtools._errors import Refused
@@ -353,7 +353,7 @@ class Limited(unittest.TestCase):
         for node in walk(tree):
             if isinstance(node, Literal):
                 evaluate(node)
-        return questions.limits_of(tree)
+        return pushdown.limits_of(tree)
 
     def test_limits(self):
         for text, wanted in [("5", (5, 0)), ("5 OFFSET 2", (5, 2)), ("2, 5", (5, 2)),

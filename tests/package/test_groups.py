@@ -15,7 +15,7 @@ from bwtools._engine.executor import Part
 from bwtools._result import Limits
 from bwtools._sql import groups, plan
 from bwtools._sql.groups import Wanted
-from bwtools._sql.statement import Statement
+from bwtools._sql.plan import Statement
 from tests.support import Imported, imported
 
 CITIES = ("Bern", "Genf", "Zug")

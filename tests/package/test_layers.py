@@ -8,20 +8,19 @@ import bwtools
 ROOT = pathlib.Path(bwtools.__file__).parent
 # bottom first; those of one line don't import each other; a line that begins with + continues one
 LAYERS = """
-    __init__ _cli.__init__ _cli.statements _identifiers _progress _types.number_format
-     +loader.dictionary
+    __init__ _cli.__init__ _identifiers _progress _types.number_format loader.dictionary
     _errors _types.base
     _csv.dialect _engine.process _storage.atomic _types.dictionary _types.numbers
      +_types.temporal
     _csv.reader _engine.executor _inference.options _sql.lexer _types.kinds
     _inference.fields _result _storage.columns_file
     _aggregation _csv.file _dataframes _output _storage.catalog
-    _cli.shell _engine.cluster _inference.ambiguity _sql.cost _sql.syntax loader.encode
-    _inference.detectors _sql.expressions _sql.literals _sql.parser
-    _inference.infer _sql.pushdown _sql.resolve
-    _sql.prepare _sql.questions _sql.render _sql.validate loader.table
-    _sql.groups _sql.listing _sql.statement loader.importing
-    _cli.options _sql.by_sqlite _sql.plan
+    _cli.shell _engine.cluster _inference.ambiguity _sql.syntax loader.encode
+    _inference.detectors _sql.literals _sql.parser _sql.resolve
+    _inference.infer _sql.prepare _sql.pushdown _sql.validate
+    _sql.groups loader.table
+    _sql.plan loader.importing
+    _cli.options _sql.by_sqlite
     _cli.from_numbers _cli.import_ _cli.to_numbers _database
     _cli.asking _dbapi
     _cli.ask _cli.shards""".replace("\n     +", " ").split("\n")[1:]

@@ -10,10 +10,9 @@ from bwtools._engine.executor import Part
 from bwtools._result import number_in
 from bwtools._errors import Failed, Refused
 from bwtools._sql import by_sqlite
-from bwtools._sql.prepare import FUNCTIONS
+from bwtools._sql.prepare import FUNCTIONS, Renderer
 from bwtools._sql.pushdown import pushed
-from bwtools._sql.render import Renderer
-from bwtools._sql.statement import Statement
+from bwtools._sql.plan import Statement
 
 from tests.support import Imported, imported
 
@@ -181,7 +180,7 @@ class Listed(Listings):
                          [(4, "BOSTON"), (5, "BERGEN")])
 
     def test_interrupt_undoes_what_was_listed(self):
-        with mock.patch("bwtools._sql.listing.integers_of", side_effect=KeyboardInterrupt), \
+        with mock.patch("bwtools._sql.by_sqlite.integers_of", side_effect=KeyboardInterrupt), \
                 self.assertRaises(KeyboardInterrupt):
             self.rows("SELECT abs(id) FROM trips")
         self.assertEqual(len(self.rows("SELECT abs(id) FROM trips")), 5)

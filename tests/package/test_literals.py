@@ -7,7 +7,7 @@ from fractions import Fraction
 import bwtools
 from bwtools._sql import plan
 from bwtools._sql.literals import exact
-from bwtools._sql.statement import Statement
+from bwtools._sql.plan import Statement
 
 from tests import support
 

@@ -9,7 +9,7 @@ import sqlite3
 
 import bwtools
 from bwtools._sql import plan
-from bwtools._sql.statement import Statement
+from bwtools._sql.plan import Statement
 
 from tests import reference
 from tests.support import ROOT, Imported

@@ -7,7 +7,7 @@ import importlib.util
 import unittest
 
 from bwtools._sql.lexer import tokens_of
-from bwtools._sql.statement import Statement
+from bwtools._sql.plan import Statement
 from bwtools._storage.catalog import open_catalog
 from bwtools._errors import Refused
 

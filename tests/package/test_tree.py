@@ -9,7 +9,7 @@ from collections import Counter
 import bwtools
 from bwtools._sql.lexer import tokens_of
 from bwtools._sql.parser import RESERVED, Unexpected, parse
-from bwtools._sql.statement import Statement
+from bwtools._sql.plan import Statement
 from bwtools._sql.syntax import children, walk
 from bwtools._storage.catalog import Catalog
 from bwtools._errors import Refused

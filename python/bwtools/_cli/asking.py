@@ -92,7 +92,7 @@ class Asking:
         rejected has the empty line alone. Returns the status of the first one that failed."""
         first = 0
         # few questions come on standard input
-        from .statements import statements_in
+        from .shell import statements_in
         for statement in statements_in(lines):
             status = self.status_of(statement)
             first = first or status

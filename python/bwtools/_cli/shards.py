@@ -20,10 +20,10 @@ from __future__ import annotations
 import argparse
 import sys
 
-from .. import _errors
-from ..loader import importing
+from .._errors import status_of
 from .._inference import options
 from .._storage.catalog import name_of
+from ..loader import importing
 from .asking import ask
 from .options import add_asking, add_loading, new_parser, options_of
 
@@ -40,11 +40,10 @@ def load(given: argparse.Namespace) -> None:
 
 def parser_of(command_name: str) -> argparse.ArgumentParser:
     """Returns the parser of `load` or `ask`."""
-    is_load = command_name == "load"
-    what = "Splits a CSV file, and loads it as several tables." if is_load else \
-        "Queries all shards as one table."
+    add, what = (add_loading, "Splits a CSV file, and loads it as several tables.") \
+        if command_name == "load" else (add_asking, "Queries all shards as one table.")
     parser = new_parser(f"{NAME} {command_name}", f"{what}\n\n{__doc__}")
-    (add_loading if is_load else add_asking)(parser)
+    add(parser)
     return parser
 
 
@@ -57,6 +56,5 @@ def main() -> int:
     given = options.parsed(parser, sys.argv[2:])
     if name == "load" and not given.folder and not given.dry_run:
         parser.error("expected FOLDER or --dry-run")
-    return _errors.status_of(NAME, lambda: load(given) if name == "load" else ask(
-        options_of(given), [(name_of(given.folder), given.folder)], given.statement,
-        given.scheduler))
+    return status_of(NAME, lambda: load(given) if name == "load" else ask(options_of(given), [
+        (name_of(given.folder), given.folder)], given.statement, given.scheduler))

@@ -1,11 +1,4 @@
-"""Translates a condition to one over a table's numbers, which bw evaluates. It may have AND, OR and
-NOT; comparisons, BETWEEN and IN of columns and literals; LIKE and GLOB of a column and a text;
-tests of nulls and truths; and columns of numbers or booleans, and numbers, which are TRUE if they
-aren't 0. All else is outside.
-
-A literal that no row can have is compared correctly: it is between two numbers, so `< 12.505` is
-`<= 1250` on hundredths. A condition that is FALSE for each value becomes `x <> x`, and one that is
-TRUE becomes `x = x`: both are UNKNOWN if x is null, as the original is."""
+"""What statements of bw can answer: conditions as numbers, totals and rows."""
 from __future__ import annotations
 
 import operator
@@ -13,18 +6,31 @@ import sqlite3
 from typing import TYPE_CHECKING, Any, Callable, Iterable, Sequence, Union
 
 from .. import _result as values
-from .._engine.executor import Outside
-from .._types.base import GREATEST, LEAST, Column
-from .._types.kinds import undressed
-from .._types.dictionary import StoredList
-from .lexer import TEXT
-from .literals import Constant, constant_of
-from .syntax import (Between, ColumnName, Comparison, InList, InQuery, Like, Literal, Node,
-                     NullTest, Operation, Query, Select, Subquery, TableSource, Unary, walk)
+from .._aggregation import AGGREGATES, Aggregate, values_of
+from .._engine.executor import Engine, Outside, select as select_text
+from .._result import Limits, NumberRows, SortKey, ValueRows, WantedRows
 from .._storage.catalog import Table
+from .._types.base import GREATEST, LEAST, Column, Kind
+from .._types.dictionary import StoredList
+from .._types.kinds import undressed
+from .lexer import NUMBER, TEXT
+from .literals import Constant, constant_of
+from .resolve import place_of
+from .syntax import (Between, Call, ColumnName, Comparison, InList, InQuery, Like, Literal, Node,
+                     NullTest, Operation, OrderTerm, Query, Select, Subquery, TableSource, Unary,
+                     walk)
 
 if TYPE_CHECKING:
     from fractions import Fraction
+
+
+# Translates a condition to one over a table's numbers, which bw evaluates. It may have AND, OR
+# and NOT; comparisons, BETWEEN and IN of columns and literals; LIKE and GLOB of a column and a
+# text; tests of nulls and truths; and columns of numbers or booleans, and numbers, which are TRUE
+# if they aren't 0. All else is outside. A literal that no row can have is compared correctly: it
+# is between two numbers, so `< 12.505` is `<= 1250` on hundredths. A condition that is FALSE for
+# each value becomes `x <> x`, and one that is TRUE becomes `x = x`: both are UNKNOWN if x is
+# null, as the original is.
 
 SWAPPED = {"<": ">", ">": "<", "<=": ">=", ">=": "<=", "=": "=", "<>": "<>"}
 # of two texts or of two numbers
@@ -66,7 +72,7 @@ def always(column: Column) -> str:
     return f"{column.name} = {column.name}"
 
 
-def place_of(column: Column, literal: Comparand) -> tuple[int, bool]:
+def literal_place(column: Column, literal: Comparand) -> tuple[int, bool]:
     """Returns the place of a literal among the numbers of a column: the greatest number whose value
     is at most the literal's, and whether they are equal."""
     constant = literal.constant
@@ -93,7 +99,7 @@ def compared(left: Comparand, sign: str, right: Comparand) -> str:
     if right.column:
         return compared(right, SWAPPED[sign], left)
     if left.column:
-        return placed(left.column, sign, *place_of(left.column, right))
+        return placed(left.column, sign, *literal_place(left.column, right))
     if not all(each.constant and (each.constant.is_integer or isinstance(each.value, str))
                for each in (left, right)) or \
             isinstance(left.value, str) != isinstance(right.value, str):
@@ -133,7 +139,7 @@ def columns_compared(left: Column, sign: str, right: Column) -> str:
     terms = [never(left), never(right)]
     for number, value in zip(range_of(few), exact_values(few, range_of(few))):
         constant = Constant(None, value)
-        part = placed(other, SWAPPED[sign], *place_of(other, Comparand(None, constant)))
+        part = placed(other, SWAPPED[sign], *literal_place(other, Comparand(None, constant)))
         terms.append(f"{few.name} = {number} AND {part}")
     return f"({' OR '.join(terms)})"
 
@@ -166,8 +172,8 @@ def between(operand: Comparand, low: Comparand, high: Comparand) -> str:
     """Returns a BETWEEN over numbers: one BETWEEN, if its ends are literals that have a place, or
     else two comparisons in brackets."""
     if operand.column and low.value is not None and high.value is not None:
-        least, is_exact = place_of(operand.column, low)
-        least, greatest = least if is_exact else least + 1, place_of(operand.column, high)[0]
+        least, is_exact = literal_place(operand.column, low)
+        least, greatest = least if is_exact else least + 1, literal_place(operand.column, high)[0]
         if LEAST <= least <= GREATEST and LEAST <= greatest <= GREATEST:
             return f"{operand.column.name} BETWEEN {least} AND {greatest}"
     return f"({compared(operand, '>=', low)} AND {compared(operand, '<=', high)})"
@@ -182,7 +188,7 @@ def among(column: Column, members: Sequence[Comparand]) -> str:
         elif member.column:
             others.append(columns_compared(column, "=", member.column))
         else:
-            number, is_exact = place_of(column, member)
+            number, is_exact = literal_place(column, member)
             if is_exact and LEAST <= number <= GREATEST:
                 kept.append(str(number))
     if kept:
@@ -420,3 +426,116 @@ def is_true(operand: Comparand) -> str:
         raise Outside
     from fractions import Fraction
     return compared(operand, "<>", Comparand(None, Constant(None, Fraction(0), True)))
+
+
+# What statements of bw answer without groups: totals of all rows, and rows of columns, in order
+# and within limits.
+
+
+def totals_of(tree: Query, select: Select) -> list[Aggregate]:
+    """Returns the aggregates that a statement asks for, or none if it asks for anything else."""
+    if select.quantifier or select.groups or select.having or tree.orders or tree.limit:
+        return []
+    found = list[Aggregate]()
+    for item in select.items:
+        if not isinstance(item.expression, Call) or item.expression.name not in AGGREGATES:
+            return []
+        try:
+            found.append(aggregate_of(item.expression))
+        except Outside:
+            return []
+        if not found[-1].is_of_bw:
+            return []
+    return found
+
+
+class Totals:
+    """Totals of all rows, and nothing else, each of which bw computes: one statement of bw, whose
+    answer is one row. No other module of SQL is needed for it."""
+
+    def __init__(self, select: Select, table: Table, aggregates: Sequence[Aggregate]) -> None:
+        self.select, self.table, self.aggregates = select, table, aggregates
+        self.where = condition_of(select.where)
+
+    def kinds(self) -> list[Kind | None]:
+        """Returns the kinds of the columns."""
+        return [each.kind for each in self.aggregates]
+
+    def body(self, engine: Engine, _: object = None) -> ValueRows:
+        """Returns the row."""
+        names = list(dict.fromkeys(name for each in self.aggregates for name in each.totals))
+        asked = select_text(", ".join(names), self.table.bw_name, self.where)
+        found = {name: [value] for name, value in zip(names, engine.once(asked))}
+        exact = [place for place, kind in enumerate(self.kinds()) if kind]
+        return ValueRows([tuple(values_of(each, found)[0] for each in self.aggregates)], exact)
+
+
+def aggregate_of(call: Call) -> Aggregate:
+    """Returns an aggregate over a column, or COUNT(*), as which COUNT(1) is. Raises Outside for
+    another one."""
+    if call.filter or call.over or call.orders or call.is_bare:
+        raise Outside
+    argument = call.arguments[0] if len(call.arguments) == 1 else None
+    is_of_rows = isinstance(argument, Literal) and argument.kind in (NUMBER, TEXT) and \
+        not call.is_distinct
+    if call.name == "COUNT" and (call.is_star or is_of_rows):
+        return Aggregate("COUNT")
+    column = direct_column(argument) if argument else None
+    if not column or call.is_distinct and call.name in ("SUM", "AVG"):
+        raise Outside
+    return Aggregate(call.name, column, call.is_distinct and call.name == "COUNT")
+
+
+class Rows:
+    """Rows of columns, in order and within limits."""
+
+    def __init__(self, tree: Query, select: Select, table: Table) -> None:
+        self.table, self.columns = table, list[Column]()
+        for item in select.items:
+            self.columns += [wanted_column(item.expression)] if item.expression else table.columns
+        self.keys = [self.key(term) for term in tree.orders]
+        self.limits = limits_of(tree)
+        self.where = condition_of(select.where)
+
+    def kinds(self) -> list[Kind | None]:
+        """Returns the kinds of the columns."""
+        return [column.kind for column in self.columns]
+
+    def key(self, term: OrderTerm) -> SortKey:
+        """Returns the column of a term of ORDER BY: by its place, its name or its alias."""
+        place = place_of(term.expression, len(self.columns))
+        column = wanted_column(term.expression) if place is None else self.columns[place]
+        return SortKey(column, term.is_descending, term.are_nulls_first)
+
+    def body(self, engine: Engine, _: object = None) -> NumberRows:
+        """Returns the rows that bw lists."""
+        return WantedRows(self.table.bw_name, self.columns, self.where, self.keys,
+                          self.limits).body(engine)
+
+
+def wanted_column(node: Node) -> Column:
+    """Returns the column that an expression is. Raises Outside for another one."""
+    column = direct_column(node)
+    if not column:
+        raise Outside
+    return column
+
+
+def limits_of(tree: Query) -> Limits:
+    """Returns the limits of LIMIT, which must be whole numbers. Raises Outside for others."""
+    if tree.limit is None:
+        return Limits()
+    most = whole_number(tree.limit)
+    offset = whole_number(tree.offset) if tree.offset else 0
+    return Limits(None if most < 0 else most, max(0, offset))
+
+
+def whole_number(node: Node) -> int:
+    """Returns a whole number with an optional sign."""
+    sign = 1
+    if isinstance(node, Unary) and node.sign in ("+", "-"):
+        sign, node = -1 if node.sign == "-" else 1, node.operand
+    text = node.text if isinstance(node, Literal) else ""
+    if not text.lstrip("-").isdecimal() or len(text) > 18:
+        raise Outside
+    return sign * int(text)

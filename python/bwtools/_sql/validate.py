@@ -14,8 +14,7 @@ from .._identifiers import option
 from .._errors import Refused
 from .lexer import TEXT as TEXT_TOKEN, short
 from .literals import Constant, are_same, constant_of, form_of
-from .expressions import choices, column_of, exact_of, meaning
-from .resolve import place_of
+from .resolve import choices, column_of, exact_of, meaning, place_of
 from .syntax import (Between, Call, Case, ColumnName, Comparison, InList, InQuery, Item, Like,
                      Literal, Node, NullTest, Operation, OrderTerm, Output, Query, Row, Select,
                      Source, Subquery, TableSource, Unary, Window, bare, children)
