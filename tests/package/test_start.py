@@ -18,10 +18,11 @@ print(*sorted(set(sys.modules) - before), file=sys.stderr)
 sys.exit(status)
 """
 OWN = set("""
-    _aggregation _cli _cli.ask _cli.asking _cli.options _database _engine _engine.executor
-    _engine.process _errors _identifiers _output _progress _result _sql _sql.lexer _sql.literals
-    _sql.parser _sql.plan _sql.prepare _sql.pushdown _sql.resolve _sql.syntax _sql.validate _storage
-    _storage.catalog _storage.columns_file _types _types.base _types.dictionary _types.kinds""".split())
+    _aggregation _cli _cli.ask _cli.asking _cli.options _database _engine
+    _engine.executor _engine.process _errors _identifiers _output _progress _result
+    _sql _sql.lexer _sql.literals _sql.parser _sql.plan _sql.prepare _sql.pushdown
+    _sql.resolve _sql.syntax _sql.validate _storage _storage.catalog
+    _storage.columns_file _types _types.base _types.dictionary _types.kinds""".split())
 # what takes long to import, and what nobody needs who counts
 SLOW = set("argparse csv dataclasses decimal distributed fractions gettext hashlib inspect json "
            "locale numpy pandas pathlib random shutil statistics subprocess tempfile threading "
