@@ -18,9 +18,9 @@ from typing import Any, Callable, Iterator, List, NamedTuple, Sequence, Tuple
 
 import tests  # noqa: F401  finds bwtools
 import bwtools
+from bwtools._errors import Refused
 from bwtools._sql import plan
 from bwtools._sql.plan import Statement
-from bwtools._errors import Refused
 from tests import reference, support
 
 # the columns, and the digits after the point of decimals; -1 are floats

@@ -24,10 +24,10 @@ from dataclasses import dataclass, field
 from typing import Iterator, Sequence
 
 import tests  # noqa: F401  finds bwtools
-from bwtools.loader.table import Table
 from bwtools._csv.dialect import BLANKS
-from bwtools._inference.options import add_options, parsed
 from bwtools._errors import Refused, shown
+from bwtools._inference.options import add_options, parsed
+from bwtools.loader.table import Table
 from tests.support import ROOT, columns_in
 
 SUITES = ("bookworm", "trixie", "sid")

@@ -12,9 +12,9 @@ from fractions import Fraction
 from typing import Any, Callable, Iterable, Iterator, Sequence
 
 import bwtools
+from bwtools._errors import Refused
 from bwtools._sql import plan
 from bwtools._sql.plan import Statement
-from bwtools._errors import Refused
 
 from tests import support
 

@@ -20,11 +20,11 @@ from typing import Any, Callable, Iterator, Sequence
 
 import tests  # noqa: F401  finds bwtools
 import bwtools
+from bwtools._errors import Refused
 from bwtools._sql import plan
 from bwtools._sql.lexer import tokens_of
 from bwtools._sql.parser import parse
 from bwtools._sql.plan import Statement
-from bwtools._errors import Refused
 from tests import drawn_select, reference, support
 from tests.drawn_select import LONG, TABLES, TYPES, Pair
 

@@ -24,14 +24,14 @@ import warnings
 from typing import Any, Callable, Iterable, NamedTuple, Sequence, TypeVar
 
 import bwtools
-from bwtools.loader import importing
-from bwtools._types import kinds
-from bwtools._inference.options import add_options, parsed
 from bwtools._cli import import_
-from bwtools.loader.table import Table, write_numbers
-from bwtools._types.dictionary import SortedList
 from bwtools._csv.file import Source
 from bwtools._errors import Refused
+from bwtools._inference.options import add_options, parsed
+from bwtools._types import kinds
+from bwtools._types.dictionary import SortedList
+from bwtools.loader import importing
+from bwtools.loader.table import Table, write_numbers
 
 ROOT = pathlib.Path(__file__).resolve().parent.parent
 PYTHON = ROOT / "python"

@@ -10,10 +10,10 @@ import os
 import random
 import sqlite3
 
-from bwtools._storage import columns_file
 from bwtools._cli import to_numbers
-from bwtools._output import turn_back
 from bwtools._inference.options import parsed
+from bwtools._output import turn_back
+from bwtools._storage import columns_file
 
 from tests import drawn, support
 from tests.support import bw, tool

@@ -15,12 +15,12 @@ from typing import (TYPE_CHECKING, Any, Callable, Iterable, Iterator, Mapping, O
                     Sequence, Tuple)
 
 from ._engine.executor import COUNT, added
+from ._errors import Refused
 from ._result import (INFINITE_BITS, MOST_EXACT, NULL, Value, blob_of, columns_of, doubles as
                       decoded, foreign, integers_of, is_double, number_in, stored)
-from ._types.dictionary import Codes
 from ._types.base import GREATEST, LEAST, Column, Kind, Valued
+from ._types.dictionary import Codes
 from ._types.kinds import undressed
-from ._errors import Refused
 
 if TYPE_CHECKING:
     import sqlite3

@@ -7,14 +7,14 @@ import os
 from typing import TYPE_CHECKING, Any, Callable, Sequence, TypeVar
 
 from ._engine.executor import Asker, Engine, Local
+from ._errors import Failed, Refused
+from ._progress import Waiting
 from ._result import Result
 from ._sql import plan
 from ._sql.plan import Parameters, Statement
 from ._storage.catalog import Catalog, Table
-from ._types.base import Column
-from ._errors import Failed, Refused
 from ._storage.columns_file import ATTEMPTS
-from ._progress import Waiting
+from ._types.base import Column
 
 if TYPE_CHECKING:
     from ._sql.by_sqlite import BySqlite

@@ -6,13 +6,13 @@ import collections
 import importlib
 from typing import Any, Callable, NamedTuple, Sequence
 
+from ._errors import Refused
 from ._result import NumberRows, Numbers, Result, ResultColumn, foreign, objects_of
 from ._types.base import GREATEST, LEAST, Kind
 from ._types.kinds import Texts, undressed
+from ._types.number_format import power_of_ten
 from ._types.numbers import Decimals, Floats, Ranked, Truths
 from ._types.temporal import Clocks, Dates, Times
-from ._types.number_format import power_of_ten
-from ._errors import Refused
 
 # numbers up to this one are doubles
 MOST_EXACT = 1 << 53

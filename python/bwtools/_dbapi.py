@@ -8,8 +8,8 @@ import sqlite3
 from typing import TYPE_CHECKING, Any, Callable, Optional, Sequence, Tuple, TypeVar, cast
 
 from ._database import Database, Settings
-from ._result import Position, Result, ResultColumn, Values
 from ._errors import Refused, failure_of, is_failure
+from ._result import Position, Result, ResultColumn, Values
 from ._sql.plan import Parameters
 from ._storage.catalog import name_of, open_catalog
 

@@ -8,9 +8,9 @@ import itertools
 import re
 from typing import Any, Callable, Iterator, Sequence, TextIO
 
+from ._errors import Refused, counted, shown
 from ._result import Numbers, Result, Values
 from ._types.base import Column
-from ._errors import Refused, counted, shown
 
 FORMATS = ("csv", "table", "json", "markdown", "tsv", "vertical")
 QUOTE, QUOTED = '"', re.compile('[",\r\n]')

@@ -4,9 +4,9 @@ import unittest
 
 from bwtools import _output as answers
 from bwtools._csv import reader
+from bwtools._errors import Refused
 from bwtools._types import kinds
 from bwtools._types.base import Column
-from bwtools._errors import Refused
 from tests.support import texts
 
 COLUMNS = [Column("n", "n", kinds.Whole(), ["NA"]),

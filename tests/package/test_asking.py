@@ -16,12 +16,12 @@ import unittest
 from bwtools import _output
 from bwtools._cli.asking import split
 from bwtools._cli.shell import statements_in
+from bwtools._errors import Refused
 from bwtools._result import Result, ValueRows
 from bwtools._types.kinds import Styled, Whole
+from bwtools._types.number_format import Style
 from bwtools._types.numbers import Decimals, Truths
 from bwtools._types.temporal import Dates
-from bwtools._types.number_format import Style
-from bwtools._errors import Refused
 
 from tests.support import BW, PYTHON, Imported, tool
 

@@ -9,11 +9,11 @@ import time
 from unittest import mock
 
 import bwtools
-from bwtools._storage import catalog
 from bwtools._cli import asking
 from bwtools._database import Database
-from bwtools._storage.catalog import open_catalog
 from bwtools._errors import Failed
+from bwtools._storage import catalog
+from bwtools._storage.catalog import open_catalog
 
 from tests.support import BW, Imported, Running, TestCase, in_fork, imported, tool, write_script
 

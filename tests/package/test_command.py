@@ -3,8 +3,8 @@ import argparse
 import unittest
 
 from bwtools import _errors
-from bwtools._inference import options
 from bwtools._errors import Refused
+from bwtools._inference import options
 
 
 def parsed(*words):

@@ -6,12 +6,12 @@ import unittest
 from unittest import mock
 
 import bwtools
-from bwtools._types import kinds
 from bwtools._aggregation import Aggregate
 from bwtools._result import columns_of
 from bwtools._sql import groups
 from bwtools._sql.by_sqlite import text_of
 from bwtools._sql.plan import Statement
+from bwtools._types import kinds
 from bwtools._types.base import Column
 
 from tests.support import Imported

@@ -9,9 +9,9 @@ import unittest
 from unittest import mock
 
 from bwtools import _errors
-from bwtools._errors import Failed, Refused
 from bwtools._engine import cluster, executor
 from bwtools._engine.process import MOST_AHEAD, SURPLUS
+from bwtools._errors import Failed, Refused
 
 COUNTS = "read a; read b; printf 'COUNT(*),MAX(x)\\n%s\\n\\n' "
 BW = _errors.program()

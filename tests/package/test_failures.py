@@ -11,8 +11,8 @@ from unittest import mock
 
 import bwtools
 from bwtools import _errors
-from bwtools._storage import columns_file
 from bwtools._sql import plan
+from bwtools._storage import columns_file
 
 from tests.support import (BW, PYTHON, Imported, TestCase, content, import_package, imported,
                            tool, write_script)

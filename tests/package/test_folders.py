@@ -7,10 +7,10 @@ import tempfile
 import unittest
 from unittest import mock
 
-from bwtools.loader import importing
 from bwtools._storage import atomic, catalog, columns_file
-from bwtools._types.base import Column
 from bwtools._storage.catalog import FILE, Folder, shard_file
+from bwtools._types.base import Column
+from bwtools.loader import importing
 
 from tests.support import in_fork, texts
 

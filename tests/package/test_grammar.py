@@ -7,21 +7,21 @@ import unittest
 from fractions import Fraction
 from unittest import mock
 
-from bwtools._storage import columns_file
-from bwtools._types import kinds
-from bwtools._types.base import Column
-from bwtools._types.dictionary import SortedList
 from bwtools._engine.executor import Outside
+from bwtools._errors import Refused
 from bwtools._result import Limits
 from bwtools._sql import plan, pushdown
 from bwtools._sql.lexer import tokens_of
 from bwtools._sql.literals import Constant, evaluate
 from bwtools._sql.parser import parse
-from bwtools._sql.pushdown import Comparand
 from bwtools._sql.plan import Statement
+from bwtools._sql.pushdown import Comparand
 from bwtools._sql.syntax import Literal, walk
+from bwtools._storage import columns_file
 from bwtools._storage.catalog import Catalog, Table
-from bwtools._errors import Refused
+from bwtools._types import kinds
+from bwtools._types.base import Column
+from bwtools._types.dictionary import SortedList
 from tests.support import texts
 
 CITIES = ("Bern", "Genf", "O'Hare", "Zug", "bern", "x_y", "ärger")

@@ -6,16 +6,16 @@ import unittest
 from unittest import mock
 
 import bwtools
-from bwtools._types import kinds
-from bwtools._errors import Failed, Refused
 from bwtools import _aggregation as counted, _result as rows
 from bwtools._aggregation import float_sum
 from bwtools._engine import executor
 from bwtools._engine.executor import Part
+from bwtools._errors import Failed, Refused
 from bwtools._result import Limits
 from bwtools._sql import groups, plan
 from bwtools._sql.groups import Wanted
 from bwtools._sql.plan import Statement
+from bwtools._types import kinds
 from tests.support import Imported, imported
 
 CITIES = ("Bern", "Genf", "Zug")

@@ -7,12 +7,12 @@ from unittest import mock
 import bwtools
 from bwtools._aggregation import NeedsExact, summed
 from bwtools._engine.executor import Part
-from bwtools._result import number_in
 from bwtools._errors import Failed, Refused
+from bwtools._result import number_in
 from bwtools._sql import by_sqlite
+from bwtools._sql.plan import Statement
 from bwtools._sql.prepare import FUNCTIONS, Renderer
 from bwtools._sql.pushdown import pushed
-from bwtools._sql.plan import Statement
 
 from tests.support import Imported, imported
 

@@ -10,13 +10,13 @@ import unittest
 from array import array
 from unittest import mock
 
-from bwtools.loader import dictionary, encode, importing
-from bwtools._storage import catalog
 from bwtools._cli import import_
-from bwtools.loader.dictionary import ByteFile, merge, read_fields
-from bwtools._storage.catalog import Folder
 from bwtools._csv.dialect import Signs
 from bwtools._errors import Refused
+from bwtools._storage import catalog
+from bwtools._storage.catalog import Folder
+from bwtools.loader import dictionary, encode, importing
+from bwtools.loader.dictionary import ByteFile, merge, read_fields
 
 from tests.support import Import, TestCase, bw, described
 

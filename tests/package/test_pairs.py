@@ -10,9 +10,9 @@ import unittest
 import zlib
 from unittest import mock
 
+from bwtools._errors import Refused
 from bwtools._storage import atomic, catalog, columns_file
 from bwtools._types.base import Column
-from bwtools._errors import Refused
 
 from tests.support import Imported, described, in_fork, texts, tool
 

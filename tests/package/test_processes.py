@@ -4,8 +4,8 @@ import signal
 import time
 import unittest
 
-from bwtools.loader import encode
 from bwtools._errors import Refused
+from bwtools.loader import encode
 
 
 def refuse(part):

@@ -9,8 +9,8 @@ import unittest
 from unittest import mock
 
 import bwtools
-from bwtools._errors import Failed, Refused
 from bwtools._engine.executor import Engine, Local
+from bwtools._errors import Failed, Refused
 from tests.support import Imported
 
 COUNT = "SELECT COUNT(*) FROM t"

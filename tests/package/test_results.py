@@ -22,12 +22,12 @@ from fractions import Fraction
 from unittest import mock
 
 import bwtools
-from bwtools._types import kinds
 from bwtools._aggregation import Aggregate, values_of
+from bwtools._engine.executor import Part
 from bwtools._output import writer_of
 from bwtools._result import (NumberRows, Numbers, Result, ValueRows, blob_of, number_in,
                              numbers_of, stored)
-from bwtools._engine.executor import Part
+from bwtools._types import kinds
 from bwtools._types.base import Column
 
 from tests.support import PYTHON, Imported, imported, in_fork, texts

@@ -7,9 +7,9 @@ import tempfile
 import unittest
 from unittest import mock
 
-from bwtools._errors import Failed
 from bwtools._engine.process import (AT_ONCE, SURPLUS, Session, SessionOutput,
                                      one_statement)
+from bwtools._errors import Failed
 
 
 class Parts(io.RawIOBase):

@@ -9,10 +9,10 @@ import random
 import unittest
 
 from bwtools._csv import reader
-from bwtools.loader.dictionary import texts_of
-from bwtools.loader.encode import Coder
 from bwtools._csv.file import Source
 from bwtools._errors import Refused
+from bwtools.loader.dictionary import texts_of
+from bwtools.loader.encode import Coder
 
 from tests.support import bw, in_file, options, source_of
 

@@ -6,10 +6,10 @@ import decimal
 import importlib.util
 import unittest
 
+from bwtools._errors import Refused
 from bwtools._sql.lexer import tokens_of
 from bwtools._sql.plan import Statement
 from bwtools._storage.catalog import open_catalog
-from bwtools._errors import Refused
 
 from tests.support import Imported
 

@@ -8,13 +8,13 @@ import tempfile
 import time
 import unittest
 
+from bwtools._errors import Refused
 from bwtools._storage import columns_file
+from bwtools._storage.columns_file import Store, TableFile
 from bwtools._types import dictionary, kinds
 from bwtools._types.base import Column
 from bwtools._types.dictionary import SortedList
-from bwtools._storage.columns_file import Store, TableFile
 from bwtools._types.number_format import Style
-from bwtools._errors import Refused
 
 from tests.support import described, texts
 

@@ -2,8 +2,8 @@
 import sqlite3
 import unittest
 
-from bwtools._sql.lexer import MOST_TOKENS, quoted_name, text_literal, tokens_of
 from bwtools._errors import Refused
+from bwtools._sql.lexer import MOST_TOKENS, quoted_name, text_literal, tokens_of
 
 
 def texts(sql):

@@ -7,12 +7,12 @@ import unittest
 from collections import Counter
 
 import bwtools
+from bwtools._errors import Refused
 from bwtools._sql.lexer import tokens_of
 from bwtools._sql.parser import RESERVED, Unexpected, parse
 from bwtools._sql.plan import Statement
 from bwtools._sql.syntax import children, walk
 from bwtools._storage.catalog import Catalog
-from bwtools._errors import Refused
 
 from tests import drawn_numbers, drawn_select, selects, support
 from tests.support import Imported

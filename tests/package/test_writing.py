@@ -8,10 +8,10 @@ import tempfile
 import unittest
 from unittest import mock
 
+from bwtools._errors import Refused
 from bwtools._storage import atomic
 from bwtools.loader import encode
 from bwtools.loader.table import Table
-from bwtools._errors import Refused
 
 from tests.support import Import, numbers_of, options, table_of
 

@@ -10,12 +10,12 @@ from typing import Callable, Iterable, Sequence, TextIO, cast
 
 from .. import _errors
 from .._database import Database, Settings
-from .._output import Writer, writer_of
-from .._result import Result
 from .._errors import Refused, counted, failure_of, is_failure
 from .._identifiers import is_name
-from .._storage.catalog import name_of, open_catalog
+from .._output import Writer, writer_of
 from .._progress import Waiting
+from .._result import Result
+from .._storage.catalog import name_of, open_catalog
 from .options import AnswerOptions
 
 # so many characters of an answer are held until it is whole; a longer one is written as it comes

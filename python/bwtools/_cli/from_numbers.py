@@ -19,9 +19,9 @@ import os
 import sys
 
 from .. import _errors
-from .._storage import catalog
 from .._inference import options
 from .._output import turn_back
+from .._storage import catalog
 from .._storage.columns_file import Store, open_regular
 from .options import new_parser
 

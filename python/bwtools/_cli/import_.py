@@ -28,8 +28,8 @@ import argparse
 import sys
 
 from .. import _errors
-from ..loader import importing
 from .._inference import options
+from ..loader import importing
 from .options import add_import, new_parser
 
 NAME = "bw-import"

@@ -16,9 +16,9 @@ import pathlib
 import sys
 
 from .. import _errors
-from .._storage import atomic, columns_file
 from .._csv.file import path_of
 from .._inference import options
+from .._storage import atomic, columns_file
 from ..loader.table import Table, write_numbers
 from .options import new_parser
 

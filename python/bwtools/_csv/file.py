@@ -22,8 +22,8 @@ from typing import IO, Any, BinaryIO, Iterable, Iterator, NoReturn, Sequence
 
 from .._errors import Refused, counted, shown
 from .._identifiers import MOST_CHARACTERS, MOST_COLUMNS, MOST_ROWS, option
-from .._types.number_format import is_number
 from .._storage.columns_file import Marks
+from .._types.number_format import is_number
 from . import dialect
 from .dialect import NUL, SEPARATORS, Record, Signs
 from .reader import Changes, Records, changes_of, reader_of, rewritten, without_runs

@@ -8,13 +8,13 @@ from dataclasses import dataclass
 from typing import Mapping, NamedTuple, NoReturn, Optional, Protocol, Sequence, Union
 
 from .._csv.dialect import BLANKS
+from .._csv.file import Source
 from .._errors import Refused, shown
 from .._identifiers import option
 from .._types.base import Kind
 from .._types.kinds import Styled, undressed
 from .._types.number_format import DEFAULT, Style
 from .._types.numbers import Floats, Ranked
-from .._csv.file import Source
 from .fields import Fields
 
 

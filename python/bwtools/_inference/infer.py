@@ -8,8 +8,9 @@ from array import array
 from dataclasses import dataclass, field, replace
 from typing import Iterable, Iterator, Optional, Sequence
 
-from .._csv.dialect import BLANKS
 from .._csv import dialect
+from .._csv.dialect import BLANKS
+from .._csv.file import Source
 from .._errors import Refused, counted, shown
 from .._identifiers import option
 from .._types.base import Kind, Nulls, Numbers, Styled
@@ -17,7 +18,6 @@ from .._types.dictionary import SortedList, TextBlocks, Texts
 from .._types.number_format import Style, is_number
 from .._types.numbers import Floats, Ranked, bits_of
 from .._types.temporal import ISO_DATE, Times, is_like_date
-from .._csv.file import Source
 from .ambiguity import Asked, Decision, Judge, Question, Verdict, refuse
 from .detectors import LIKENESSES, ClockJudge, DateJudge, NumberJudge, TruthJudge, WantedJudge
 from .fields import Fields, Numbered, Run, values_of

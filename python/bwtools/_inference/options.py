@@ -5,8 +5,8 @@ import argparse
 from dataclasses import dataclass, replace
 from typing import Any, Optional, Sequence
 
-from .._errors import Refused, shown
 from .._csv.dialect import NO_QUOTE, SEPARATORS
+from .._errors import Refused, shown
 
 
 # The options of the programs, and what the arguments of the command line give.

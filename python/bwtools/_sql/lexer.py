@@ -3,8 +3,8 @@ from __future__ import annotations
 
 import re
 
-from .._types.dictionary import is_unicode
 from .._errors import Refused
+from .._types.dictionary import is_unicode
 
 # the kinds of tokens
 WORD, QUOTED, TEXT, NUMBER, BLOB, PARAMETER, MARK, END = (

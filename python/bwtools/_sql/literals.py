@@ -11,11 +11,11 @@ import re
 from collections.abc import Mapping
 from typing import TYPE_CHECKING, Any, Sequence, Union
 
+from .._errors import Refused
 from .._result import INTEGER, MOMENTS, affinity, is_long
 from .._types.base import GREATEST, LEAST, Column
-from .._types.kinds import Styled, undressed
 from .._types.dictionary import is_unicode
-from .._errors import Refused
+from .._types.kinds import Styled, undressed
 from .lexer import BLOB, MOST_SHORT, NUMBER, TEXT, WORD, text_literal
 from .syntax import ColumnName, Literal, Node, Unary
 

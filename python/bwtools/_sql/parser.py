@@ -5,12 +5,12 @@ from __future__ import annotations
 from typing import Callable, Optional, Sequence
 
 from .._errors import Refused
+from .lexer import (BLOB, COMPARE, COMPOUND, END, JOINS, MOMENTS, NUMBER, PARAMETER, QUERY, QUOTED,
+                    RESERVED, TEXT, WORD, Token, short)
 from .syntax import (IN, Between, Call, Case, Cast, Collate, ColumnName, CommonQuery, Comparison,
                      InList, InQuery, Item, Like, Literal, Name, NestedSources, Node, NullTest,
                      Operation, OrderTerm, Query, QuerySource, Row, Select, Source, Subquery,
                      TableSource, Unary, When, Window, children)
-from .lexer import (BLOB, COMPARE, COMPOUND, END, JOINS, MOMENTS, NUMBER, PARAMETER, QUERY, QUOTED,
-                    RESERVED, TEXT, WORD, Token, short)
 
 # the levels of operators: those of a higher one bind tighter
 OR, AND, NOT, EQUAL, ORDER, BITS, SUM, PRODUCT, JOINED, COLLATE, SIGN = range(11)

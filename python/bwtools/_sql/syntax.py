@@ -6,8 +6,8 @@ from __future__ import annotations
 
 from typing import TYPE_CHECKING, Iterable, Iterator, Optional, Sequence, Tuple
 
-from .._types.base import Column, Kind
 from .._storage.catalog import Table
+from .._types.base import Column, Kind
 
 if TYPE_CHECKING:
     from fractions import Fraction

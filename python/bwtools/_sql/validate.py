@@ -8,10 +8,10 @@ from __future__ import annotations
 from typing import Iterable, Iterator, Sequence
 
 from .. import _aggregation
+from .._errors import Refused
+from .._identifiers import option
 from .._result import MOMENTS, TEXT, affinity, is_long, plain_of
 from .._types.base import Column, Literal as Value
-from .._identifiers import option
-from .._errors import Refused
 from .lexer import TEXT as TEXT_TOKEN, short
 from .literals import Constant, are_same, constant_of, form_of
 from .resolve import choices, column_of, exact_of, meaning, place_of
