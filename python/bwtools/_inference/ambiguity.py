@@ -71,7 +71,7 @@ def change_in_double(plain: str) -> decimal.Decimal:
     return abs(CONTEXT.subtract(number, near))
 
 
-# What a judge returns: what a column becomes, or what can't be decided about it.
+# What a detector returns: what a column becomes, or what can't be decided about it.
 
 
 @dataclass(frozen=True)
@@ -95,7 +95,7 @@ class Decision:
 
 
 @dataclass(frozen=True)
-class Question:
+class Ambiguity:
     """What can't be decided about a column. `texts` are fields that show it; in `what` each {0},
     {1} stands for one of them and its line. `options` are those that decide it, as may the ones
     that make the texts null if `may_be_null`."""
@@ -105,15 +105,15 @@ class Question:
     may_be_null: bool = False
 
 
-Verdict = Union[Decision, Question]
+Verdict = Union[Decision, Ambiguity]
 
 
-# What a judge of columns does.
+# What a detector of columns does.
 
 
-class Judge(Protocol):
-    """A judge of columns. `plural` and `singular` name what it looks for, `forms` are those of the
-    fields stored as numbers that it accepts."""
+class Detector(Protocol):
+    """A detector of columns. `plural` and `singular` name what it looks for, `forms` are those of
+    the fields stored as numbers that it accepts."""
 
     @property
     def plural(self) -> str: ...
@@ -164,31 +164,31 @@ PLACE = re.compile(r"\{([0-9])\}")
 
 
 class Asked(NamedTuple):
-    """A question about a column, which has a place."""
+    """An ambiguity about a column, which has a place."""
     place: int
     column: Fields
-    question: Question
+    ambiguity: Ambiguity
 
 
 def refuse(source: Source, asked: Sequence[Asked]) -> None:
-    """Rejects a file if there are questions about its columns."""
+    """Rejects a file if there are ambiguities about its columns."""
     if asked:
         refuse_all(source, asked)
 
 
 def refuse_all(source: Source, asked: Sequence[Asked]) -> NoReturn:
-    lines = lines_of(source, {each.place: each.question.texts for each in asked})
+    lines = lines_of(source, {each.place: each.ambiguity.texts for each in asked})
     said = []
-    for place, column, question in asked:
+    for place, column, ambiguity in asked:
         found = lines[place]
-        ordered = sorted(question.texts, key=lambda text: found.get(text, -1))
+        ordered = sorted(ambiguity.texts, key=lambda text: found.get(text, -1))
         texts = [f"{shown(text)} in line {found[text]}" if text in found else shown(text)
                  for text in ordered]
         what, heading = PLACE.sub(lambda place: texts[int(place[1])],
-                                  question.what), column.wishes.heading
+                                  ambiguity.what), column.wishes.heading
         nulls = (" ".join(option("--null", f"{heading}={text}") for text in ordered),
-                 ) if question.may_be_null else ()
-        use = ', or '.join((*nulls, *question.options))
+                 ) if ambiguity.may_be_null else ()
+        use = ', or '.join((*nulls, *ambiguity.options))
         said.append(f"column {shown(heading)}: {what}: use {use}")
     if len(said) == 1:
         raise Refused(f"{source.path}: {said[0]}")

@@ -17,7 +17,7 @@ from .._types.number_format import (CODE, LAKHS, PHONE, SIMPLE, STARTS, WHOLE, Z
 from .._types.numbers import TRUTHS, TRUTH_OF, Decimals, Floats, Truths
 from .._types.temporal import (CLOCK_LINES, DATE_LINES, DATE_STARTS, ISO_DATE, MOST_DIGITS, Clocks,
                                DateFormat, Dates, Moment, Times, format_of, moment_of, read_moment)
-from .ambiguity import (SHORT, Decision, Question, Rounding, Verdict, change_in_double, matching,
+from .ambiguity import (SHORT, Ambiguity, Decision, Rounding, Verdict, change_in_double, matching,
                         starting)
 from .fields import MOST_PLACES, Fields, Spans
 
@@ -89,7 +89,7 @@ def spellings(column: Fields) -> Spellings:
 
 
 @dataclass(frozen=True)
-class ClockJudge:
+class ClockDetector:
     """Looks for times of day."""
     plural: ClassVar[str] = "times of day"
     singular: ClassVar[str] = "a time of day"
@@ -107,8 +107,8 @@ class ClockJudge:
         found = spellings(column)
         clock = found.clock()
         if isinstance(clock, tuple):
-            return Question("{0} and {1} are times of different forms", clock,
-                            (option("--text", column.wishes.heading),))
+            return Ambiguity("{0} and {1} are times of different forms", clock,
+                             (option("--text", column.wishes.heading),))
         return Decision(Clocks(clock, found.digits))
 
 
@@ -119,7 +119,7 @@ VERSIONS, FULL = "%d.%m.%y", re.compile(r"(?:[0-9]{2}\.){2}[0-9]{2}")
 
 
 @dataclass(frozen=True)
-class DateJudge:
+class DateDetector:
     """Looks for dates and times."""
     plural: ClassVar[str] = "dates"
     singular: ClassVar[str] = "a date"
@@ -139,22 +139,22 @@ class DateJudge:
         for texts in (found.forms.values(), found.zones.values()):
             if len(texts) > 1:
                 first, second, *_ = texts
-                return Question("{0} and {1} are of different forms", (first, second), keep)
+                return Ambiguity("{0} and {1} are of different forms", (first, second), keep)
         if found.odd:
-            return Question("{0} and {1} are dates of different forms", (found.first, found.odd),
-                            keep)
+            return Ambiguity("{0} and {1} are dates of different forms", (found.first, found.odd),
+                             keep)
         clock = found.clock()
         if isinstance(clock, tuple):
-            return Question("{0} and {1} are times of different forms", clock, keep)
+            return Ambiguity("{0} and {1} are times of different forms", clock, keep)
         formats = found.formats or (ISO_DATE,)
         if len(formats) > 1 and not is_same(formats):
-            return Question("{0} may be read in two ways", (found.first,), tuple(
+            return Ambiguity("{0} may be read in two ways", (found.first,), tuple(
                 option("--date", f"{heading}={form}{next(iter(found.betweens), '')}{clock}")
                 for form in formats) + keep)
         version = version_in(column) if formats[0] == VERSIONS and not clock else None
         if version:
-            return Question("{0} may be a date or a version", (version,),
-                            (option("--date", f"{heading}={VERSIONS}"), *keep))
+            return Ambiguity("{0} may be a date or a version", (version,),
+                             (option("--date", f"{heading}={VERSIONS}"), *keep))
         return decided(column, found, formats[0], clock)
 
 
@@ -189,8 +189,8 @@ def kind_that_fits(column: Fields, kind: Times) -> Verdict:
     for texts in column.bare():
         ends += [number for number in map(kind.number, texts) if number is not None]
     if min(ends) < LEAST or max(ends) > GREATEST or max(ends) - min(ends) > GREATEST:
-        return Question("its times have too many digits for 64 bits", (),
-                        (option("--text", column.wishes.heading),))
+        return Ambiguity("its times have too many digits for 64 bits", (),
+                         (option("--text", column.wishes.heading),))
     return Decision(kind)
 
 
@@ -198,7 +198,7 @@ def kind_that_fits(column: Fields, kind: Times) -> Verdict:
 
 
 @dataclass(frozen=True)
-class TruthJudge:
+class TruthDetector:
     plural: ClassVar[str] = "booleans"
     singular: ClassVar[str] = "a boolean"
     forms: ClassVar[tuple[str, ...]] = ()
@@ -320,7 +320,7 @@ def is_by_threes(text: str) -> bool:
 
 
 @dataclass
-class NumberJudge:
+class NumberDetector:
     """Looks for numbers. `survey` has what their spellings have in common, once it is known;
     `has_zeros` whether one has leading zeros, as codes have."""
     survey: Optional[Survey] = None
@@ -354,8 +354,8 @@ class NumberJudge:
         survey, wishes = self.surveyed(column), column.wishes
         conflict = survey.conflict()
         if conflict:
-            return Question("{0} and {1} are numbers with different signs", conflict,
-                            (option("--text", wishes.heading),))
+            return Ambiguity("{0} and {1} are numbers with different signs", conflict,
+                             (option("--text", wishes.heading),))
         if survey.zeros and not wishes.is_number:
             return with_zeros(survey, wishes.heading)
         is_wanted = wishes.is_number or wishes.digits is not None
@@ -366,28 +366,28 @@ class NumberJudge:
         is_either = survey.code and not survey.no_code and are_whole(column)
         # if spellings are kept, it becomes a text in any case
         if is_either and not is_wanted and not wishes.rules.keeps_spelling:
-            return Question("{0} may be a code, or a number with a power of ten", (survey.code,),
-                            both(wishes.heading))
+            return Ambiguity("{0} may be a code, or a number with a power of ten", (survey.code,),
+                             both(wishes.heading))
         sign = self.decimal_sign(column, signs)
-        if isinstance(sign, Question):
+        if isinstance(sign, Ambiguity):
             return sign
         return in_style(column, survey.style(sign))
 
-    def decimal_sign(self, column: Fields, signs: set[str]) -> Union[str, Question]:
+    def decimal_sign(self, column: Fields, signs: set[str]) -> Union[str, Ambiguity]:
         """Returns the decimal sign of the column, or why it can't be decided."""
         survey, wishes = self.surveyed(column), column.wishes
         own, heading = survey.decimal(), wishes.heading
         thousands = wishes.rules.thousands
         if own and own == thousands:
-            return Question(f"{{0}} has {thousands} before other than three digits",
-                            (survey.decimals.get(own, survey.first),),
-                            (option("--text", heading),))
+            return Ambiguity(f"{{0}} has {thousands} before other than three digits",
+                             (survey.decimals.get(own, survey.first),),
+                             (option("--text", heading),))
         if thousands and thousands in survey.eithers and len(survey.eithers) == 1:
             return "," if thousands == "." else "."
         is_separator = wishes.rules.separator == "," and not wishes.is_number
         if own == "," and is_separator and not survey.groupings:
-            return Question("{0} has a comma, which separates the fields", (survey.decimals[","],),
-                            both(heading))
+            return Ambiguity("{0} has a comma, which separates the fields", (survey.decimals[","],),
+                             both(heading))
         if own or not survey.eithers:
             return own or "."
         (mark, text), = survey.eithers.items()
@@ -400,8 +400,8 @@ class NumberJudge:
             return mark
         # another column has it as the decimal sign
         between = [] if mark in signs else [option("--thousands", mark)]
-        return Question(f"{{0}} may be {text.replace(mark, '')} or {text.replace(mark, '.')}",
-                        (text,), (*between, *both(heading)))
+        return Ambiguity(f"{{0}} may be {text.replace(mark, '')} or {text.replace(mark, '.')}",
+                         (text,), (*between, *both(heading)))
 
 
 def has_minus(column: Fields) -> bool:
@@ -448,14 +448,14 @@ def in_style(column: Fields, style: Style) -> Verdict:
     else:
         text = too_large(column, style)
         if text is not None:
-            return Question("{0} is too large for a double", (text,),
-                            (option("--null", f"{wishes.heading}={text}"),
-                             option("--text", wishes.heading)))
+            return Ambiguity("{0} is too large for a double", (text,),
+                             (option("--null", f"{wishes.heading}={text}"),
+                              option("--text", wishes.heading)))
         text = None if wishes.is_number else no_double(column, style)
         if text is not None:
             near = f"{float(style.bare(text) or 0):.0f}"
-            return Question(f"{{0}} is no double: the nearest is {near}", (text,),
-                            (*digits_for(column, style), option("--text", wishes.heading)))
+            return Ambiguity(f"{{0}} is no double: the nearest is {near}", (text,),
+                             (*digits_for(column, style), option("--text", wishes.heading)))
         number = Floats(0)
     return Decision(dressed(number, style))
 
@@ -484,9 +484,9 @@ def rounded(column: Fields, style: Style, digits: int) -> Verdict:
     present = [number for number in numbers if number is not None]
     least, greatest = min(present, default=0), max(present, default=0)
     if least < LEAST or greatest > GREATEST or greatest - least > GREATEST:
-        return Question(f"its numbers don't fit 64 bits with {digits} digits after the point", (),
-                        (option("--digits", f"{column.wishes.heading}=N") + " with fewer",
-                         option("--text", column.wishes.heading)))
+        return Ambiguity(f"its numbers don't fit 64 bits with {digits} digits after the point", (),
+                         (option("--digits", f"{column.wishes.heading}=N") + " with fewer",
+                          option("--text", column.wishes.heading)))
     number: Numbers = Decimals(digits, 0) if digits else Whole()
     return Decision(dressed(number, style), rounding=rounding)
 
@@ -526,7 +526,7 @@ def too_large(column: Fields, style: Style) -> Optional[str]:
 
 
 @dataclass(frozen=True)
-class WantedJudge:
+class WantedDetector:
     """Looks for dates or times in one format."""
     form: str
     plural: ClassVar[str] = "dates"
@@ -625,8 +625,8 @@ def is_length(text: str) -> bool:
 
 @dataclass(frozen=True)
 class Likeness:
-    """A judge of what texts look like, which decides nothing. `has_order` says of those of a column
-    that look so whether code points order them."""
+    """A detector of what texts look like, which decides nothing. `has_order` says of those of a
+    column that look so whether code points order them."""
     plural: str
     is_like: Callable[[str], bool]
     forms: tuple[str, ...] = ()

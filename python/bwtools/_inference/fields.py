@@ -17,7 +17,7 @@ from .._types.base import GREATEST, LEAST
 from .._types.number_format import is_grouped
 from .._types.temporal import plain_times
 from ..loader.dictionary import Dictionary, texts_of
-from .options import NULLS, Wishes
+from .options import NULLS, ColumnOptions
 
 
 # The numbers that a column stores, by their digits.
@@ -308,8 +308,8 @@ def split_nulls(fields: Sequence[str], places: dict[str, int]) -> tuple[Sequence
 # above so many distinct fields, numbers and times are examined so many at a time
 MANY, AT_ONCE = 1 << 11, 1 << 12
 # of a run of more texts than these, so many are drawn first: if less than two fifths of the drawn
-# ones are like a judge's own, then less than half of all are, but for a chance of one in a thousand
-# million
+# ones are like a detector's own, then less than half of all are, but for a chance of one in a
+# thousand million
 DRAWN_OF, DRAWN = 1 << 14, 1000
 # a blank, and it at an end of a field among those that are joined by NULs
 PADDED = ((b" ", b"\0 ", b" \0"), (b"\t", b"\0\t", b"\t\0"))
@@ -373,7 +373,7 @@ class Fields:
     """What is known of the fields of a column: what is asked for it, its distinct fields, of which
     a column of numbers has none, what is known of those that are kept as numbers, and how many rows
     have each word for null, whatever the column is."""
-    wishes: Wishes
+    wishes: ColumnOptions
     plain: Plain
     rows: int
     dictionary: Optional[Dictionary] = None

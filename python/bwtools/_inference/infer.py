@@ -18,8 +18,9 @@ from .._types.dictionary import SortedList, TextBlocks, Texts
 from .._types.number_format import Style, is_number
 from .._types.numbers import Floats, Ranked, bits_of
 from .._types.temporal import ISO_DATE, Times, is_like_date
-from .ambiguity import Asked, Decision, Judge, Question, Verdict, refuse
-from .detectors import LIKENESSES, ClockJudge, DateJudge, NumberJudge, TruthJudge, WantedJudge
+from .ambiguity import Ambiguity, Asked, Decision, Detector, Verdict, refuse
+from .detectors import (LIKENESSES, ClockDetector, DateDetector, NumberDetector, TruthDetector,
+                        WantedDetector)
 from .fields import Fields, Numbered, Run, values_of
 
 
@@ -110,7 +111,7 @@ class Sorted:
     ends: tuple[str, ...]
 
 
-def text_question(column: Fields) -> Optional[Question]:
+def text_ambiguity(column: Fields) -> Optional[Ambiguity]:
     """Returns what must be asked about blanks in a column of texts: whether texts that differ only
     in them are the same."""
     rules = column.wishes.rules
@@ -122,8 +123,8 @@ def text_question(column: Fields) -> Optional[Question]:
         for text in texts:
             bare = text.strip(BLANKS)
             if bare and padded.get(bare, text) != text:
-                return Question("{0} and {1} differ only in blanks", (padded[bare], text),
-                                blanks_options(column))
+                return Ambiguity("{0} and {1} differ only in blanks", (padded[bare], text),
+                                 blanks_options(column))
     return None
 
 
@@ -183,7 +184,7 @@ def without_blanks(column: Fields) -> Sorted:
                   (listed[0], listed[-1]) if listed else ())
 
 
-# The judges of a column, and what they decide together.
+# The detectors of a column, and what they decide together.
 
 # a column that is mostly of a kind, and has at most so many other words, is refused
 MOST_WORDS = 3
@@ -191,10 +192,10 @@ MOST_WORDS = 3
 
 @dataclass
 class Opinion:
-    """What one judge thinks of a column: how many of its distinct texts are like its own, how many
-    rows have these, and the first others, of which there may be more. Runs of which few texts can
-    be like its own are left."""
-    judge: Judge
+    """What one detector thinks of a column: how many of its distinct texts are like its own, how
+    many rows have these, and the first others, of which there may be more. Runs of which few texts
+    can be like its own are left."""
+    detector: Detector
     likes: int = 0
     rows: int = 0
     others: dict[str, None] = field(default_factory=dict)
@@ -202,7 +203,7 @@ class Opinion:
 
     def add(self, run: Run) -> None:
         """Adds the texts of a run."""
-        known = set(self.judge.like(run.bare))
+        known = set(self.detector.like(run.bare))
         self.likes += len(known)
         if known:
             self.rows += sum(itertools.compress(run.counts, map(known.__contains__, run.texts)))
@@ -212,10 +213,10 @@ class Opinion:
 
     def leaves(self, number: int, run: Run) -> bool:
         """Returns whether a run is left, since less than half of its texts, and of its fields, are
-        like the judge's own."""
+        like the detector's own."""
         if not run.texts_drawn:
             return False
-        known = set(self.judge.like(sorted({*run.texts_drawn, *run.rows_drawn})))
+        known = set(self.detector.like(sorted({*run.texts_drawn, *run.rows_drawn})))
         if any(sum(map(known.__contains__, each)) * 5 >= len(each) * 2
                for each in (run.texts_drawn, run.rows_drawn)):
             return False
@@ -225,9 +226,9 @@ class Opinion:
 
 
 def others_of(column: Fields, opinion: Opinion) -> list[str]:
-    """Returns the first texts that aren't like a judge's own, one more than may be refused."""
+    """Returns the first texts that aren't like a detector's own, one more than may be refused."""
     found = dict(opinion.others)
-    foreign = column.plain.forms - set(opinion.judge.forms)
+    foreign = column.plain.forms - set(opinion.detector.forms)
     for part in column.parts if foreign else ():
         if len(found) > MOST_WORDS:
             break
@@ -239,22 +240,23 @@ def others_of(column: Fields, opinion: Opinion) -> list[str]:
 
 
 def count_fields(column: Fields, opinion: Opinion) -> tuple[int, int]:
-    """Returns how many fields are like a judge's own, and how many there are, without nulls."""
-    return opinion.rows + column.count_rows(opinion.judge.forms), column.filled
+    """Returns how many fields are like a detector's own, and how many there are, without nulls."""
+    return opinion.rows + column.count_rows(opinion.detector.forms), column.filled
 
 
-class Court:
-    """The judges of a column, asked in order, and what they think of it."""
+class Inference:
+    """The detectors of a column, asked in order, and what they think of it."""
 
     def __init__(self, column: Fields) -> None:
         self.column, wishes = column, column.wishes
-        judges: Iterable[Judge] = (TruthJudge(), NumberJudge(), DateJudge(), ClockJudge())
+        detectors: Iterable[Detector] = (TruthDetector(), NumberDetector(), DateDetector(),
+                                         ClockDetector())
         is_asked = wishes.form is not None or wishes.is_number or wishes.digits is not None
         if wishes.form is not None:
-            judges = (WantedJudge(wishes.form),)
+            detectors = (WantedDetector(wishes.form),)
         elif is_asked:
-            judges = (NumberJudge(),)
-        self.opinions = [] if wishes.is_text else list(map(Opinion, judges))
+            detectors = (NumberDetector(),)
+        self.opinions = [] if wishes.is_text else list(map(Opinion, detectors))
         self.count = 0
         may_leave = not is_asked and not column.plain.forms
         for number, run in enumerate(column.runs):
@@ -269,13 +271,13 @@ class Court:
                 if number in opinion.left:
                     opinion.add(run)
 
-    def winner(self) -> Optional[Judge]:
-        """Returns the first judge to whom all fields are like its own, if there are any."""
+    def winner(self) -> Optional[Detector]:
+        """Returns the first detector to whom all fields are like its own, if there are any."""
         forms = self.column.plain.forms
         for opinion in self.opinions:
-            is_own = forms <= set(opinion.judge.forms) and bool(opinion.likes or forms)
+            is_own = forms <= set(opinion.detector.forms) and bool(opinion.likes or forms)
             if not opinion.others and is_own:
-                return opinion.judge
+                return opinion.detector
         return None
 
     def verdict(self, signs: set[str]) -> Verdict:
@@ -291,20 +293,20 @@ class Court:
             return self.asked_for()
         return self.mostly() or self.looking() or Decision(None)
 
-    def asked_for(self) -> Question:
+    def asked_for(self) -> Ambiguity:
         """Returns why a column isn't what an option says."""
         opinion, = self.opinions
         wishes, words = self.column.wishes, others_of(self.column, opinion)[:MOST_WORDS]
         name = "--number" if wishes.is_number else "--digits"
         name = "--date" if wishes.form is not None else name
         what = {"--date": f"a date in the format {wishes.form}"}.get(name, "a number")
-        return Question(f"{listed(len(words))} {verb(len(words))} {what}, as {name} states",
-                        tuple(words), (), True)
+        return Ambiguity(f"{listed(len(words))} {verb(len(words))} {what}, as {name} states",
+                         tuple(words), (), True)
 
     def mostly(self) -> Optional[Verdict]:
         """Returns what becomes of a column that is mostly of one kind, if it is."""
-        shared = [opinion for opinion in self.opinions if opinion.judge.is_shared and
-                  (opinion.likes or self.column.plain.forms & set(opinion.judge.forms))]
+        shared = [opinion for opinion in self.opinions if opinion.detector.is_shared and
+                  (opinion.likes or self.column.plain.forms & set(opinion.detector.forms))]
         shares = [(*count_fields(self.column, opinion), opinion) for opinion in shared]
         for likes, count, opinion in sorted(shares, key=lambda share: -share[0]):
             if likes * 2 < count and (opinion.likes * 2 <= self.count or self.column.plain.forms):
@@ -312,15 +314,15 @@ class Court:
             words, heading = others_of(self.column, opinion), self.column.wishes.heading
             # half of the fields don't show what the others should be, but these have no order
             if len(words) <= MOST_WORDS and likes * 2 != count:
-                return few_words(opinion.judge, words, likes, count, heading)
-            plural = opinion.judge.plural
+                return few_words(opinion.detector, words, likes, count, heading)
+            plural = opinion.detector.plural
             why = f"{likes:,} of {counted(count, 'field')} look like {plural}"
             return Decision(None, why, plural)
         return None
 
     def looking(self) -> Optional[Decision]:
-        """Returns what becomes of a column of texts most of which look like something that no judge
-        reads, if they do."""
+        """Returns what becomes of a column of texts most of which look like something that no
+        detector reads, if they do."""
         column = self.column
         opinions = list(map(Opinion, LIKENESSES))
         for run in column.runs:
@@ -336,12 +338,13 @@ class Court:
         return None
 
 
-def few_words(judge: Judge, words: list[str], likes: int, count: int, heading: str) -> Question:
+def few_words(detector: Detector, words: list[str], likes: int, count: int,
+              heading: str) -> Ambiguity:
     share = f"{likes:,} of {counted(count, 'field')}"
-    what = f"{listed(len(words))} {verb(len(words))} {judge.singular}, as {share} are"
-    if judge.plural == "dates" and all(map(is_like_date, words)):
+    what = f"{listed(len(words))} {verb(len(words))} {detector.singular}, as {share} are"
+    if detector.plural == "dates" and all(map(is_like_date, words)):
         what = f"{listed(len(words))} {verb(len(words))} a date"
-    return Question(what, tuple(words), (option("--text", heading),), True)
+    return Ambiguity(what, tuple(words), (option("--text", heading),), True)
 
 
 def listed(count: int) -> str:
@@ -374,38 +377,38 @@ def words_of(column: Fields) -> list[str]:
 def decide(source: Source, columns: list[Fields], may_be_row: bool) -> list[Decision]:
     """Returns what each column becomes. Raises Refused with all that can't be decided, or for a
     heading that looks like a row, if it may be one."""
-    courts = [Court(column) for column in columns]
-    winners = [court.winner() for court in courts]
+    inferences = [Inference(column) for column in columns]
+    winners = [inference.winner() for inference in inferences]
     signs = {sign for winner,
              column in zip(winners, columns) if winner for sign in winner.signs(column)}
-    verdicts = [decided(source, court, signs) for court in courts]
-    # the options that questions name have headings
+    verdicts = [decided(source, inference, signs) for inference in inferences]
+    # the options that ambiguities name have headings
     if may_be_row and source.has_heading:
         refuse_heading(source, columns, verdicts)
     decisions = [each for each in verdicts if isinstance(each, Decision)]
     refuse(source, [Asked(place, column, verdict) for place, (column, verdict) in
-                    enumerate(zip(columns, verdicts)) if isinstance(verdict, Question)])
+                    enumerate(zip(columns, verdicts)) if isinstance(verdict, Ambiguity)])
     return settle_floats(columns, decisions)
 
 
-def decided(source: Source, court: Court, signs: set[str]) -> Verdict:
+def decided(source: Source, inference: Inference, signs: set[str]) -> Verdict:
     """Returns what a column becomes, or what must be asked about it."""
-    verdict = court.verdict(signs)
-    if isinstance(verdict, Question):
+    verdict = inference.verdict(signs)
+    if isinstance(verdict, Ambiguity):
         return verdict
-    decision = exact(court.column, verdict)
-    return question_of(source, court.column, decision) or decision
+    decision = exact(inference.column, verdict)
+    return ambiguity_of(source, inference.column, decision) or decision
 
 
-def question_of(source: Source, column: Fields, decision: Decision) -> Optional[Question]:
+def ambiguity_of(source: Source, column: Fields, decision: Decision) -> Optional[Ambiguity]:
     """Returns what must be asked about a column that became one of texts, or that has no rows."""
     found = None
     if not decision.why and (decision.kind is None or not column.rows):
-        found = table_question(source, column)
-    return found or (text_question(column) if decision.kind is None else None)
+        found = table_ambiguity(source, column)
+    return found or (text_ambiguity(column) if decision.kind is None else None)
 
 
-def table_question(source: Source, column: Fields) -> Optional[Question]:
+def table_ambiguity(source: Source, column: Fields) -> Optional[Ambiguity]:
     """Returns what must be asked about the only column of a file, if it may be a table with another
     separator: its texts have the same number of one."""
     if not source.text.is_guessed or len(source.headings) > 1 or column.wishes.is_text or \
@@ -420,10 +423,10 @@ def table_question(source: Source, column: Fields) -> Optional[Question]:
         # one in all rows but not in the heading may be a name, a time or an address
         if count > 1 or count and (heading is None or dialect.count(heading, sign) == count):
             what = f"{count} {sign!r}, which may separate fields"
-            return Question(f"all its rows have {what}" if column.rows else
-                            f"the only line has {what}", (),
-                            (dialect.separator_option(sign),
-                             option("--text", column.wishes.heading)))
+            return Ambiguity(f"all its rows have {what}" if column.rows else
+                             f"the only line has {what}", (),
+                             (dialect.separator_option(sign),
+                              option("--text", column.wishes.heading)))
     return None
 
 
@@ -474,20 +477,22 @@ def refuse_heading(source: Source, columns: Sequence[Fields], verdicts: Sequence
     """Rejects a first line that looks like the rows below it."""
     for column, verdict in zip(columns, verdicts):
         heading = column.wishes.heading
-        judges: list[Judge] = [DateJudge(), NumberJudge(), ClockJudge(), TruthJudge()]
+        detectors: list[Detector] = [DateDetector(), NumberDetector(), ClockDetector(),
+                                     TruthDetector()]
         if column.wishes.form is not None:
-            judges = [WantedJudge(column.wishes.form)]
-        if any(judge.like([heading]) and is_all_like(judge, column, verdict) for judge in judges):
+            detectors = [WantedDetector(column.wishes.form)]
+        if any(detector.like([heading]) and is_all_like(detector, column, verdict)
+               for detector in detectors):
             raise Refused(f"{source.path}: the first line has {shown(heading)} above a column of "
                           "such fields: "
                           "use --no-heading if it is a row, or --heading if it is a heading")
 
 
-def is_all_like(judge: Judge, column: Fields, verdict: Verdict) -> bool:
-    """Returns whether all fields of a column are like a judge's own."""
+def is_all_like(detector: Detector, column: Fields, verdict: Verdict) -> bool:
+    """Returns whether all fields of a column are like a detector's own."""
     if isinstance(verdict, Decision) and isinstance(verdict.kind, Nulls):
         return True
-    found = [(len(texts), len(judge.like(texts))) for texts in column.bare()]
-    return column.plain.forms <= set(judge.forms) and all(count == likes for count,
-                                                          likes in found) and \
+    found = [(len(texts), len(detector.like(texts))) for texts in column.bare()]
+    return column.plain.forms <= set(detector.forms) and all(count == likes for count,
+                                                             likes in found) and \
         (bool(column.plain.forms) or any(count for count, _ in found))

@@ -183,7 +183,7 @@ class Rules:
 
 
 @dataclass(frozen=True)
-class Wishes:
+class ColumnOptions:
     """What holds for one column: its heading; whether it is one of texts, or of numbers; the format
     of its dates; to how many digits its numbers are rounded; and the words that are null in it,
     whatever it is."""
@@ -211,7 +211,8 @@ NAMING = {"--text": "text", "--number": "number", "--date": "date", "--digits": 
           "--keep-blanks": "blanks_kept", "--drop-blanks": "blanks_dropped"}
 
 
-def wishes_of(given: argparse.Namespace, headings: list[str], separator: str) -> list[Wishes]:
+def wishes_of(given: argparse.Namespace, headings: list[str],
+              separator: str) -> list[ColumnOptions]:
     """Returns what is asked for each column. Rejects options that name none, or contradict each
     other."""
     known = set(headings)
@@ -229,8 +230,9 @@ def wishes_of(given: argparse.Namespace, headings: list[str], separator: str) ->
             raise Refused(f"column {shown(heading)} can't be of two kinds: give one of --text, "
                           "--number, --date and --digits for it")
         words = tuple(dict.fromkeys(("", *general, *nulls.get(heading, []))))
-        found.append(Wishes(heading, rules_for(given, separator, heading), is_text, is_number,
-                            given.date.get(heading), given.digits.get(heading), words))
+        rules = rules_for(given, separator, heading)
+        found.append(ColumnOptions(heading, rules, is_text, is_number, given.date.get(heading),
+                                   given.digits.get(heading), words))
     return found
 
 

@@ -20,7 +20,7 @@ from .._identifiers import MOST_BYTES, MOST_CHARACTERS, MOST_ROWS, names_of, opt
 from .._inference.ambiguity import Decision, change_in_double
 from .._inference.fields import Fields, Numbered, Part, Plain, values_of
 from .._inference.infer import Sorted, decide, numbered_doubles, restores, sorted_texts
-from .._inference.options import NULLS, Wishes, wishes_of
+from .._inference.options import NULLS, ColumnOptions, wishes_of
 from .._progress import Waiting
 from .._storage.catalog import record_of
 from .._storage.columns_file import TableFile
@@ -365,7 +365,7 @@ class Table:
             raise Mixed(mixed)
         return found
 
-    def codes(self, coded: CodedFile, place: int, wishes: Wishes,
+    def codes(self, coded: CodedFile, place: int, wishes: ColumnOptions,
               ends: Optional[tuple[int, int]]) -> Codes:
         """Returns the codes of a column."""
         dictionaries = [part.dictionaries[place] for part in coded.parts]
@@ -480,14 +480,15 @@ def ends_of(parts: Sequence[CodedPart], place: int) -> Optional[tuple[int, int]]
     return min(least for least, _ in bounds), max(greatest for _, greatest in bounds)
 
 
-def needs_codes(wishes: Wishes, ends: tuple[int, int]) -> bool:
+def needs_codes(wishes: ColumnOptions, ends: tuple[int, int]) -> bool:
     """Returns whether numbers are asked to become anything else."""
     if wishes.is_text or wishes.form is not None or wishes.digits is not None:
         return True
     return any(SIMPLE.fullmatch(word) and ends[0] <= int(word) <= ends[1] for word in wishes.nulls)
 
 
-def are_whole(dictionaries: Sequence[Dictionary], wishes: Wishes, ends: tuple[int, int]) -> bool:
+def are_whole(dictionaries: Sequence[Dictionary], wishes: ColumnOptions,
+              ends: tuple[int, int]) -> bool:
     """Returns whether fields beside numbers are whole numbers and words for null, and all numbers
     fit one column."""
     least, greatest = ends
@@ -505,7 +506,7 @@ def are_whole(dictionaries: Sequence[Dictionary], wishes: Wishes, ends: tuple[in
     return greatest - least <= GREATEST
 
 
-def plain_of(wishes: Wishes) -> Plain:
+def plain_of(wishes: ColumnOptions) -> Plain:
     """Returns what is known of the fields of a column before they are read."""
     own = (wishes.form is not None or wishes.is_text or wishes.digits is not None or
            wishes.rules.keeps_blanks)
