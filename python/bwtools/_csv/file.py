@@ -442,6 +442,9 @@ class Text:
 
     def refuse_unreadable(self, error: dialect.Unreadable) -> NoReturn:
         """Rejects the file for a record that isn't CSV."""
+        if "contains NUL" in str(error):
+            # Python before 3.11 reads none
+            self.refuse_nul([NUL], error.line)
         if "field limit" in str(error):
             raise Refused(f"{self.path}: line {error.line}, or one after it, has a field of more "
                           f"than {MOST_CHARACTERS:,} characters, or one in quotes that doesn't "
