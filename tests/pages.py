@@ -191,7 +191,7 @@ NEEDS = {"pandas": ("python3", with_pandas, "python3-pandas"),
 
 
 def furnish(folder: pathlib.Path) -> None:
-    """Gives a folder the examples, the cases and the scripts, and `bin`, which has bw beside the
+    """Gives a folder examples, cases, scripts and verify, and `bin`, which has bw beside the
     Python programs."""
     (folder / "bin").mkdir()
     (folder / "bin" / "bw").symlink_to(BW)
@@ -199,7 +199,7 @@ def furnish(folder: pathlib.Path) -> None:
         # the module site, of no use here, takes longer to start than a small question
         support.write_script(folder / "bin" / name, shlex.join(
             ["exec", sys.executable, "-S", str(support.PYTHON / "bin" / name)]) + ' "$@"')
-    for name in ("examples", "cases", "scripts"):
+    for name in ("examples", "cases", "scripts", "verify"):
         (folder / name).symlink_to(ROOT / name)
 
 

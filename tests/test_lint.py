@@ -20,7 +20,9 @@ STRICT = ["--strict", "--python-version", "3.9", "--ignore-missing-imports", "--
           "--explicit-package-bases", "--no-site-packages", "--cache-dir"]
 # what is typed beside the package
 TYPED = [f"tests/{name}.py" for name in ("support", "pages", "drawn", "drawn_numbers", "reference",
-                                       "drawn_select", "selects")]
+                                       "drawn_select", "selects", "drawn_programs",
+                                       "second_checker")]
+TYPED += ["verify/check.py", "verify/answer.py", "scripts/pictures.py"]
 WORD = re.compile(r"[^\s(){}\[\],;.:λ@]+")
 # a definition or lemma at the margin: its name, and the block that it belongs to
 HEAD = re.compile(r"^(?:(?:pub|abbrev|unfoldable|opaque) )*([^\s(){}\[\],;.:]+) :(?: (.*))?$")
@@ -94,7 +96,8 @@ class Sources(support.TestCase):
             self.skipTest("type hints: install mypy")
         kept = ROOT / "out" if os.access(ROOT / "out", os.W_OK) else None
         done = support.run(["mypy", *STRICT, kept / "mypy" if kept else os.devnull,
-                            "python/bwtools", *TYPED], cwd=ROOT, MYPYPATH=str(support.PYTHON))
+                            "python/bwtools", *TYPED], cwd=ROOT,
+                           MYPYPATH=f"{support.PYTHON}:{ROOT / 'verify'}")
         self.assertEqual((done.status, done.out + done.err), (0, ""))
 
     def test_shell(self):

@@ -20,7 +20,7 @@ from ._result import (INFINITE_BITS, MOST_EXACT, NULL, Value, blob_of, columns_o
                       decoded, foreign, integers_of, is_double, number_in, stored)
 from ._types.base import GREATEST, LEAST, Column, Kind, Valued
 from ._types.dictionary import Codes
-from ._types.kinds import undressed
+from ._types.kinds import unstyled
 
 if TYPE_CHECKING:
     import sqlite3
@@ -86,12 +86,12 @@ class Aggregate(Valued):
 
 def kind_of_sum(kind: Kind) -> Kind | None:
     """Returns the kind of a sum of values of a kind: decimals, or None."""
-    return undressed(kind) if kind.name == "decimals" else None
+    return unstyled(kind) if kind.name == "decimals" else None
 
 
 def digits_of(kind: Kind) -> int:
     """Returns the power of ten by which a column's values are multiplied to get its numbers."""
-    plain: Any = undressed(kind)
+    plain: Any = unstyled(kind)
     return int(plain.digits) if plain.name == "decimals" else 0
 
 
@@ -151,7 +151,7 @@ def binades(gap: int, least: int, greatest: int) -> list[tuple[int, int]]:
 def sum_of_binades(kind: Kind, totals: Sequence[tuple[int, int, int]]) -> float:
     """Returns the double nearest to the sum of a float column's values. Each total is a number of a
     binade, how many numbers of it there are, and their sum."""
-    plain: Any = undressed(kind)
+    plain: Any = unstyled(kind)
     gap, found = plain.gap, 0
     for number, count, total in totals:
         sign = -1 if number < 0 else 1
@@ -321,7 +321,7 @@ def totals(parts: Sequence[Part], keys: int, functions: Mapping[str, Sequence[st
 def doubles_in(parts: Sequence[Part], kind: Kind) -> array[float]:
     """Returns the doubles of a column, which is the only one and has no nulls."""
     from array import array
-    found, plain = array("d"), undressed(kind)
+    found, plain = array("d"), unstyled(kind)
     gap: int | None = getattr(plain, "gap", None)
     for lines in lines_of(parts):
         numbers = integers_of(lines)

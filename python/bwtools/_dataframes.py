@@ -9,7 +9,7 @@ from typing import Any, Callable, NamedTuple, Sequence
 from ._errors import Refused
 from ._result import NumberRows, Numbers, Result, ResultColumn, foreign, objects_of
 from ._types.base import GREATEST, LEAST, Kind
-from ._types.kinds import Texts, undressed
+from ._types.kinds import Texts, unstyled
 from ._types.number_format import power_of_ten
 from ._types.numbers import Decimals, Floats, Ranked, Truths
 from ._types.temporal import Clocks, Dates, Times
@@ -70,7 +70,7 @@ def frame_of(answer: Result, decimals: bool) -> Any:
 
 def series_of(numpy: Any, pandas: Any, kind: Kind | None, column: Array, decimals: bool) -> Any:
     """Returns the array of pandas for a column."""
-    plain = None if kind is None else undressed(kind)
+    plain = None if kind is None else unstyled(kind)
     if column.categories is not None:
         return pandas.Categorical.from_codes(column.values, column.categories)
     if isinstance(plain, Decimals) and decimals:
@@ -107,7 +107,7 @@ def moments_of(numpy: Any, pandas: Any, kind: Dates | Times, values: Any) -> Any
 
 def converted(numpy: Any, kind: Kind | None, column: Array) -> Any:
     """Returns the values of a column's numbers."""
-    plain, numbers = None if kind is None else undressed(kind), column.values
+    plain, numbers = None if kind is None else unstyled(kind), column.values
     if isinstance(plain, Truths):
         return numbers.astype(bool)
     if isinstance(plain, Decimals):
@@ -167,7 +167,7 @@ def parsed(numpy: Any, data: bytes, width: int) -> tuple[Any, Any]:
 def with_categories(numpy: Any, kind: Kind | None, numbers: Any, mask: Any) -> Array:
     """Returns a column of numbers: of texts, and of doubles that are places in a list, the values
     that occur are its categories."""
-    plain = None if kind is None else undressed(kind)
+    plain = None if kind is None else unstyled(kind)
     if kind is None or not isinstance(plain, (Texts, Ranked)):
         return Array(numbers, mask)
     codes, places = distinct(numpy, numbers[~mask])
@@ -200,7 +200,7 @@ def of_column(numpy: Any, column: ResultColumn) -> Array:
         mask = numpy.array([number is None for number in numbers], dtype=bool)
         found = [number or 0 for number in numbers]
         is_wide = any(not LEAST <= number <= GREATEST for number in found)
-        if isinstance(undressed(column.kind), (Texts, Ranked)):
+        if isinstance(unstyled(column.kind), (Texts, Ranked)):
             return with_categories(numpy, column.kind, numpy.array(found, dtype=numpy.int64), mask)
         return Array(numpy.array(found, dtype=object if is_wide else numpy.int64), mask)
     values = column.items

@@ -14,7 +14,7 @@ from typing import TYPE_CHECKING, Any, Callable, Iterator, Sequence, Tuple, Unio
 from ._engine.executor import COUNT, Engine, Outside, Part, both, names_of, select
 from ._errors import Failed, Refused
 from ._types.base import Kind, Literal, Place, Valued
-from ._types.kinds import undressed
+from ._types.kinds import unstyled
 
 if TYPE_CHECKING:
     from array import array
@@ -63,7 +63,7 @@ def is_long(column: Column) -> bool:
 def plain_of(kind: Kind) -> Kind:
     """Returns the kind that spells dates and times in ISO form, and reads no other; another kind
     without its style."""
-    plain: Any = undressed(kind)
+    plain: Any = unstyled(kind)
     if kind.name not in MOMENTS:
         found: Kind = plain
         return found
@@ -264,14 +264,14 @@ class Numbers:
 
     def fields(self) -> list[str]:
         """Returns the fields in the column's own form, without quotes; a null is an empty one."""
-        if self.kind.name in ("whole", "nulls") and undressed(self.kind) is self.kind:
+        if self.kind.name in ("whole", "nulls") and unstyled(self.kind) is self.kind:
             return ["" if each in NULLS else str(each) for each in self.items]
         return self.turned("", self.kind.spell)
 
     def json(self) -> list[str]:
         """Returns the values of JSON: numbers with all their digits, true and false, and texts:
         those of dates and times are in ISO form."""
-        plain: Any = undressed(self.kind)
+        plain: Any = unstyled(self.kind)
         if plain.name in ("whole", "nulls"):
             return ["null" if each in NULLS else str(each) for each in self.items]
         if plain.name == "decimals":
@@ -301,10 +301,10 @@ class Values:
 
     def fields(self) -> list[str]:
         """Returns the fields: floats in the column's style, if it has one."""
-        if self.kind is None or undressed(self.kind) is self.kind:
+        if self.kind is None or unstyled(self.kind) is self.kind:
             return list(map(spelled, self.items))
         style: Any = self.kind
-        return [style.style.dressed(repr(value)) if isinstance(value, (int, float))
+        return [style.style.format(repr(value)) if isinstance(value, (int, float))
                 else spelled(value) for value in self.items]
 
     def json(self) -> list[str]:
@@ -321,7 +321,7 @@ ResultColumn = Union[Numbers, Values]
 
 def objects_of(kind: Kind, numbers: Sequence[int]) -> list[Any]:
     """Returns Python's objects of a column's numbers."""
-    plain: Any = undressed(kind)
+    plain: Any = unstyled(kind)
     if plain.name == "decimals":
         import decimal
         # of a text, since a context may round what is computed
@@ -463,7 +463,7 @@ class Result:
 
     def drop_styles(self) -> None:
         """Has numbers printed without the signs that they have in the file."""
-        self.kinds = [kind and undressed(kind) for kind in self.kinds]
+        self.kinds = [kind and unstyled(kind) for kind in self.kinds]
 
     def count(self) -> int:
         """Returns the number of rows."""

@@ -170,7 +170,7 @@ class Places(unittest.TestCase):
                          ["1.234,50 \u20ac", "-5,00 \u20ac", "0,00 \u20ac"])
         self.assertEqual((euros.place("1.234,50 \u20ac"), euros.place(Fraction("1.505"))),
                          ((123450, True), (150, False)))
-        self.assertEqual((euros.total(12345), kinds.undressed(euros).text(123450)),
+        self.assertEqual((euros.total(12345), kinds.unstyled(euros).text(123450)),
                          ("123,45 \u20ac", "1234.50"))
         brackets = kinds.Styled(kinds.Whole(), Style(prefix="$", grouping=",", brackets=1))
         self.assertEqual(brackets.spell([1234567, -12]), ["$1,234,567", "($12)"])

@@ -43,7 +43,7 @@ class Numerals(unittest.TestCase):
                             ("$7", None), ("1.23", None)):
             with self.subTest(text):
                 self.assertEqual(style.bare(text), plain)
-        self.assertEqual([style.dressed(plain) for plain in ("1234567.5", "-0.25", "5")],
+        self.assertEqual([style.format(plain) for plain in ("1234567.5", "-0.25", "5")],
                          ["1.234.567,5 EUR", "(0,25 EUR)", "5 EUR"])
 
     def test_lakhs(self):
@@ -52,7 +52,7 @@ class Numerals(unittest.TestCase):
                             ("100000", "1,00,000"), ("-1234567.5", "-12,34,567.5"),
                             ("123456789012", "1,23,45,67,89,012"), (".5", "0.5")):
             with self.subTest(plain):
-                self.assertEqual(style.dressed(plain), text)
+                self.assertEqual(style.format(plain), text)
                 self.assertEqual(style.bare(text), plain if plain[0] != "." else f"0{plain}")
         self.assertIsNone(style.bare("1,234,567"))
         self.assertIsNone(Style(".", ",").bare("12,34,567"))

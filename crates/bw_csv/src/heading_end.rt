@@ -65,7 +65,7 @@ pub(crate) fn inside_after(inside: Inside, c: u8) -> Inside
 
 /// Returns a text without the byte order mark at its start, if it has one.
 #[tactic(auto, using(crate::proofs::HeadingLemmas::byte_order_marks))]
-pub(crate) fn after_byte_order_mark(text: &[u8]) -> &[u8]
+pub fn after_byte_order_mark(text: &[u8]) -> &[u8]
     ensures { result.now ≡ strip_bom text.now }
 {
     if text.len() < 3 {

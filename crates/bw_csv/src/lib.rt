@@ -28,6 +28,7 @@ mod rows;
 mod rule;
 
 pub use field::{value_of, without_blanks};
+pub use heading_end::after_byte_order_mark;
 pub use input::read_csv;
 pub use many_fields::without_more_fields;
 pub use records::Records;

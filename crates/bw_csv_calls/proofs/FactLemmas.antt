@@ -8,6 +8,7 @@ use Rattle.bw_text.specs.Lines.{cut_lines, numbered_from}
 use Rattle.bw_model.specs.SchemaText.{IsSchemaText, schema_shape}
 use Rattle.bw_file.specs.declared.layout.Layout.{Layout}
 use Rattle.bw_file.specs.declared.layout.Layout.TheVariants.{Planes, Slices}
+use Rattle.bw_file.specs.declared.order.FileOrder.TheVariants.{ByRows}
 use Rattle.bw_file.specs.Blocks.{segment_size}
 use Rattle.bw_file.specs.FileBytes.{header_bytes}
 use Rattle.bw_csv_calls.specs.PrintedSchema.{AreComments, schema_text}
@@ -81,7 +82,7 @@ told_by version layout schema rows s w one two three four five r g v z p q t u x
     joined s _ _ _ _ _ one two three four five p q t u x ∙ rw (is, word, a, b, c, d) refl
 
 -- the size of a file, by that of its header and of a segment
-pub size_by : (version : ℕ) (layout : Layout) (schema : Schema) (rows head count size : ℕ) → head ≡ length (header_bytes version layout schema.name schema.columns.items rows) → count ≡ rows
+pub size_by : (version : ℕ) (layout : Layout) (schema : Schema) (rows head count size : ℕ) → head ≡ length (header_bytes ByRows version layout schema.name schema.columns.items rows) → count ≡ rows
     → size ≡ segment_size layout schema.columns.items → head + (count + 511) / 512 * size ≡ file_size version layout schema rows
 size_by version layout schema rows head count size p q r = rw (p, q, r) refl
 

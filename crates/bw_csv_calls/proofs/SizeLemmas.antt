@@ -12,6 +12,7 @@ use Rattle.bw_model.proofs.GroupLemmas.{groups_of-count, groups_of-sizes, groups
 use Rattle.bw_segment.specs.Meaning.{IsGroup}
 use Rattle.bw_segment.proofs.BytesLemmas.{length-text}
 use Rattle.bw_file.specs.declared.layout.Layout.{Layout}
+use Rattle.bw_file.specs.declared.order.FileOrder.TheVariants.{ByRows}
 use Rattle.bw_file.specs.declared.table_reader.TableReader.{TableReader}
 use Rattle.bw_file.specs.Blocks.{form_of, segment_size, segment_bytes}
 use Rattle.bw_file.specs.FileBytes.{AreRows, IsFileBytes, front_bytes, header_bytes, segments_bytes}
@@ -28,16 +29,16 @@ use Rattle.bw_csv_calls.specs.Info.{file_size, segment_count}
 
 -- a reader took the bytes of its header
 pub header_taken : (start now : State) (reader : TableReader) → start.offset ≡ 0 → GoesOn header start (give (header_stated (version_in reader) reader)) now
-    → now.offset ≡ length (header_bytes (version_in reader) (layout_in reader) (schema_in reader).name (schema_in reader).columns.items (rows_stated reader))
+    → now.offset ≡ length (header_bytes ByRows (version_in reader) (layout_in reader) (schema_in reader).name (schema_in reader).columns.items (rows_stated reader))
 header_taken start now reader first read =
     let h = header_stated (version_in reader) reader in
     let bytes = read.bytes in
     let e = head_at start now h [] first read in
     let fits : IsBytes (bytes ++ []) = subst IsBytes (sym (append-nil bytes)) read.took.each in
-    let takes = header_takes (tail 0 (bytes ++ [])) (h, tail now.offset []) fits e in
-    let same : bytes ≡ head_bytes h = sym (append-nil bytes) ∙ takes.0.parts ∙ append-nil (head_bytes h) in
-    let size : length bytes ≡ length (head_bytes h) = ap length same in
-    let shaped = ap length (head_is (version_in reader) (rows_stated reader) (layout_in reader) (schema_in reader)) in
+    let takes = header_takes ByRows (tail 0 (bytes ++ [])) (h, tail now.offset []) fits e in
+    let same : bytes ≡ head_bytes ByRows h = sym (append-nil bytes) ∙ takes.0.parts ∙ append-nil (head_bytes ByRows h) in
+    let size : length bytes ≡ length (head_bytes ByRows h) = ap length same in
+    let shaped = ap length (head_is ByRows (version_in reader) (rows_stated reader) (layout_in reader) (schema_in reader)) in
     omega (arith, read.took.advanced, size, shaped, first)
 
 -- each group has a segment's bytes
@@ -56,7 +57,7 @@ pub table_sized : (version : ℕ) (layout : Layout) (schema : Schema) (rows : Li
 unfolding bytes_of_version segments_bytes
 table_sized version layout schema rows are =
     let columns = schema.columns.items in
-    let head = header_bytes version layout schema.name columns (length rows) in
+    let head = header_bytes ByRows version layout schema.name columns (length rows) in
     let each = each_admitted columns (groups_of rows) (ap (list_all (admits_values columns)) (groups_of-table rows) ∙ are.admitted) in
     let sized = groups_sized layout columns (groups_of rows) (groups_of-sizes rows) each in
     length-append head (flat_map (segment_bytes layout columns) (groups_of rows)) ∙ ap (λ (n : ℕ). length head + n) (sized ∙ ap (λ (n : ℕ). n * segment_size layout columns) (groups_of-count rows))

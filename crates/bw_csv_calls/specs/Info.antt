@@ -11,6 +11,7 @@ use Rattle.bw_io.specs.Sink.{is_write_fault}
 use Rattle.bw_io.specs.Source.{failed_by, is_input_fault}
 use Rattle.bw_file.specs.declared.layout.Layout.{Layout}
 use Rattle.bw_file.specs.declared.layout.Layout.TheVariants.{Planes, Slices}
+use Rattle.bw_file.specs.declared.order.FileOrder.TheVariants.{ByRows}
 use Rattle.bw_file.specs.Blocks.{segment_size}
 use Rattle.bw_file.specs.FileBytes.{header_bytes}
 use Rattle.bw_file.specs.Reading.{State, GoesOn, Fails, give}
@@ -25,7 +26,7 @@ segment_count rows = (rows + 511) / 512
 -- the number of bytes of a table's file: those of its header, and those of each segment
 abbrev pub file_size : ℕ → Layout → Schema → ℕ → ℕ
 file_size version layout schema rows =
-    length (header_bytes version layout schema.name schema.columns.items rows)
+    length (header_bytes ByRows version layout schema.name schema.columns.items rows)
     + segment_count rows * segment_size layout schema.columns.items
 
 abbrev pub layout_word : Layout → List ℕ

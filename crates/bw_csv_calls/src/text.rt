@@ -2,6 +2,7 @@
 ghost use Rattle.std.specs.Prelude.{◌≡◌, ◌++◌, ◌≤◌, IfOk, IsOkUnless, OnOk, length};
 ghost use Rattle.bw_model.specs.Fault.{no_memory};
 ghost use Rattle.bw_model.specs.SchemaText.{IsSchemaText, schema_shape};
+ghost use Rattle.bw_file.specs.declared.order.FileOrder.TheVariants.{ByRows};
 ghost use Rattle.bw_file.specs.FileBytes.{header_bytes};
 ghost use Rattle.bw_file.specs.TableReader.{bytes_taken, layout_in, rows_stated, schema_in};
 ghost use Rattle.bw_file.specs.TableReader.{version_in};
@@ -18,7 +19,7 @@ use std::alloc::{AllocError, Global};
 /// other.
 pub(crate) fn info_text(alloc: Global, reader: &TableReader) -> Result<Vec<u8>, Fault>
     requires head { bytes_taken reader.now
-        ≡ length (header_bytes (version_in reader.now) (layout_in reader.now)
+        ≡ length (header_bytes ByRows (version_in reader.now) (layout_in reader.now)
         (schema_in reader.now).name (schema_in reader.now).columns.items (rows_stated reader.now)) }
     requires short { bytes_taken reader.now ≤ 20000 }
     ensures text { IfOk result (λ text. text.items

@@ -1,5 +1,5 @@
 -- The schema of encoded columns admits their rows.
-use Rattle.std.proofs.Common.{◌≡◌, ◌∙◌, refl, sym, ap, subst, ℕ, suc, ◌<◌, true, List, [], ◌∷◌, length, Some, None, Option, arith, get_or, slice_get, All}
+use Rattle.std.proofs.Common.{◌≡◌, ◌∙◌, refl, sym, ap, subst, ℕ, suc, ◌<◌, true, List, [], ◌∷◌, length, Some, None, arith, get_or, slice_get, All}
 use Rattle.std.proofs.lemmas.List.{get_or-map, length-map}
 use Rattle.std.proofs.lemmas.List.Elements.{All-get_or}
 use Rattle.std.proofs.lemmas.Map.Keys.{any_passes_from_place}
@@ -8,26 +8,27 @@ use Rattle.bw_model.specs.declared.column.Column.{Column}
 use Rattle.bw_model.specs.declared.schema.Schema.{Schema}
 use Rattle.bw_model.specs.Column.{admits_value, admits_values}
 use Rattle.bw_model.specs.Row.{Value}
-use Rattle.bw_model.specs.SchemaText.{bound_of}
 use Rattle.bw_model.specs.Truth.{is_null}
 use Rattle.bw_model.proofs.SchemaLemmas.{ordered}
 use Rattle.bw_encode.specs.declared.coded.Coded.{Coded}
-use Rattle.bw_encode.specs.declared.dictionary.Dictionary.{Dictionary}
+use Rattle.bw_encode.specs.declared.coded.Coding.{Coding}
+use Rattle.bw_encode.specs.declared.coded.Coding.TheVariants as coding
 use Rattle.bw_encode.specs.Coded.{IsCoded, encoding_by, encoding_of, fields_in}
 use Rattle.bw_encode.specs.Column.{Encoding, IsEncodingOf, Numbers, values_in}
 use Rattle.bw_encode.specs.Fields.{texts_under}
+use Rattle.bw_encode.specs.Number.{value_text}
 use Rattle.bw_encode.specs.Seen.{IsWithin}
 use Rattle.bw_encode.specs.Table.{IsNarrowest, IsSchemaOf, row_at}
 use Rattle.bw_encode.proofs.CodeLemmas.{codes_size}
 use Rattle.bw_encode.proofs.TableLemmas.{names_size}
 
 -- a column has a value for each of its fields
-size_by : (fields : List (List ℕ)) (dictionary : Option Dictionary) → IsEncodingOf fields (encoding_by fields dictionary) → length (values_in (encoding_by fields dictionary)) ≡ length fields
-size_by fields None is = length-map fields bound_of
-size_by fields (Some d) is = length-map d.codes.items _ ∙ codes_size fields (texts_under d.fields.items) d.counts.items d.codes.items is.1
+size_by : (fields : List (List ℕ)) (by : Coding) → IsEncodingOf fields (encoding_by by) → length (values_in (encoding_by by)) ≡ length fields
+size_by fields (coding.Numbers values) is = sym (length-map values.now value_text) ∙ ap length is.spelled
+size_by fields (coding.Codes d) is = length-map d.codes.items _ ∙ codes_size fields (texts_under d.fields.items) d.counts.items d.codes.items is.1
 
 pub values_size : (column : Coded) → IsCoded column → length (values_in (encoding_of column)) ≡ length (fields_in column)
-values_size column is = size_by (fields_in column) column.dictionary is.encoding
+values_size column is = size_by (fields_in column) column.coding is.encoding
 
 admits_narrow : (values : List Value) (column : Column) → IsNarrowest values column → (row : ℕ) → row < length values → admits_value column (get_or values row None) ≡ true
 admits_narrow values column narrow row lt = go (get_or values row None) refl

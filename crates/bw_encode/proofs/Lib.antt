@@ -2,6 +2,7 @@ pub mod AdmitLemmas
 pub mod CodeLemmas
 pub mod CodedTableLemmas
 pub mod CountLemmas
+pub mod CutLemmas
 pub mod EncodeLemmas
 pub mod FuelLemmas
 pub mod NameLemmas

@@ -1,6 +1,8 @@
 pub mod Coded
 pub mod CodedTable
 pub mod Column
+pub mod ColumnFields
+pub mod Cut
 pub mod Dialect
 pub mod Dictionary
 pub mod Encode

@@ -1,5 +1,6 @@
 -- Fields with their places before sorting.
-use Rattle.std.specs.Prelude.{◌≡◌, ◌<◌, ℕ, List, length, map, All, slice_index_or, slice_index}
+use Rattle.std.specs.Prelude.{◌≡◌, ◌<◌, ◌+◌, ◌*◌, ℕ, zero, suc, List, [], ◌∷◌, length, map, All}
+use Rattle.std.specs.Prelude.{slice_index_or, slice_index}
 use Rattle.bw_encode.specs.declared.ranked.Ranked.{Ranked}
 
 abbrev pub entry_bytes : Ranked → List ℕ
@@ -7,6 +8,21 @@ entry_bytes entry = entry.bytes.now
 
 abbrev pub entries_bytes : List Ranked → List (List ℕ)
 entries_bytes entries = map entry_bytes entries
+
+-- the number that the next bytes of a text are, after a number; a byte that isn't there counts as 0
+unfoldable pub prefix_from : ℕ → ℕ → List ℕ → ℕ
+prefix_from number zero bytes = number
+prefix_from number (suc n) [] = prefix_from (number * 256) n []
+prefix_from number (suc n) (c ∷ cs) = prefix_from (number * 256 + c) n cs
+
+-- this is the number of a text's first eight bytes
+pub record IsPrefix (bytes : List ℕ) (prefix : ℕ) : Type 0 where
+  pub value : prefix ≡ prefix_from 0 8 bytes
+  pub small : (i : ℕ) → i < 8 → slice_index_or bytes i 0 < 256
+
+-- each entry has the number of its first eight bytes
+abbrev pub ArePrefixed : List Ranked → Type 0
+ArePrefixed entries = All (λ entry. IsPrefix entry.bytes.now entry.prefix) entries
 
 -- the place of the entry of an index
 abbrev pub place_in : List Ranked → ℕ → Ranked → ℕ

@@ -4,21 +4,26 @@ ghost use Rattle.bw_model.specs.Limits.{most_rows};
 ghost use Rattle.bw_encode.specs.Coded.{IsCoded, encoding_of, fields_in};
 ghost use Rattle.bw_encode.specs.Column.{values_in};
 
+use crate::column_fields::{ColumnFields, Content};
 use crate::dictionary::{Dictionary, dictionary_of};
-use crate::fields::Fields;
-use crate::number::number_of;
-use crate::numbers::numbers_in;
 use crate::seen::Seen;
 use bw_model::Value;
 use std::alloc::{AllocError, Global};
 use std::hash::RandomState;
 
-/// A column with its fields: one of codes has a dictionary, and one of numbers has none.
+/// What a column has: numbers, or codes.
+#[derive(Drop)]
+pub(crate) enum Coding<'a> {
+    Numbers(&'a [Value]),
+    Codes(Dictionary<'a>),
+}
+
+/// A column with its fields, and what is seen of its values.
 #[derive(Drop)]
 pub(crate) struct Coded<'a> {
-    pub(crate) fields: &'a Fields,
+    pub(crate) fields: &'a ColumnFields,
     pub(crate) seen: Seen,
-    pub(crate) dictionary: Option<Dictionary<'a>>,
+    pub(crate) coding: Coding<'a>,
 }
 
 impl Coded<'_> {
@@ -28,9 +33,9 @@ impl Coded<'_> {
         requires within { row < length (fields_in self.now) }
         ensures { result ≡ slice_index_or (values_in (encoding_of self.now)) row None }
     {
-        match &self.dictionary {
-            None => number_of(self.fields.get(row)),
-            Some(dictionary) => Some(i64::from(dictionary.codes[row])),
+        match &self.coding {
+            Coding::Numbers(values) => values.get(row).copied().unwrap_or(None),
+            Coding::Codes(dictionary) => Some(i64::from(dictionary.codes[row])),
         }
     }
 }
@@ -39,7 +44,7 @@ impl Coded<'_> {
 pub(crate) fn coded_columns<'a>(
     alloc: Global,
     hasher: RandomState,
-    columns: &'a [Fields],
+    columns: &'a [ColumnFields],
 ) -> Result<Vec<Coded<'a>>, AllocError>
     requires { All (λ fields. length fields ≤ most_rows) columns.now }
     ensures fields { IfOk result (λ coded. map fields_in coded.items ≡ columns.now) }
@@ -56,24 +61,25 @@ pub(crate) fn coded_columns<'a>(
 fn coded_column<'a>(
     alloc: Global,
     hasher: RandomState,
-    fields: &'a Fields,
+    fields: &'a ColumnFields,
 ) -> Result<Coded<'a>, AllocError>
     requires { length fields.now ≤ most_rows }
     ensures fields { IfOk result (λ column. fields_in column ≡ fields.now) }
     ensures coded { IfOk result IsCoded }
 {
-    if let Some(seen) = numbers_in(fields) {
-        return Ok(Coded {
+    match fields.content() {
+        Content::Numbers(values, seen) => Ok(Coded {
             fields,
             seen,
-            dictionary: None,
-        });
+            coding: Coding::Numbers(values),
+        }),
+        Content::Texts(texts) => {
+            let dictionary = dictionary_of(alloc, hasher, texts)?;
+            Ok(Coded {
+                fields,
+                seen: Seen::of_codes(dictionary.fields.len()),
+                coding: Coding::Codes(dictionary),
+            })
+        }
     }
-    let dictionary = dictionary_of(alloc, hasher, fields)?;
-    let seen = Seen::of_codes(dictionary.fields.len());
-    Ok(Coded {
-        fields,
-        seen,
-        dictionary: Some(dictionary),
-    })
 }

@@ -1,8 +1,8 @@
 //! A CSV text by columns, and its columns coded.
 use crate::coded::{Coded, coded_columns};
+use crate::column_fields::ColumnFields;
 use crate::columns::read_columns;
 use crate::dialect::Dialect;
-use crate::fields::Fields;
 use crate::fields_text::fields_text;
 use crate::selection::Selection;
 use crate::table::{deliver_rows, schema_of};
@@ -13,7 +13,7 @@ use std::hash::RandomState;
 /// The fields of a CSV text's rows, by columns, and how many bytes of the text were read.
 #[derive(Drop)]
 pub struct TextColumns {
-    columns: Vec<Fields>,
+    columns: Vec<ColumnFields>,
     bytes_read: usize,
 }
 
@@ -25,8 +25,8 @@ impl TextColumns {
     ghost use Rattle.bw_encode.specs.Rest.{bytes_read};
     ghost use Rattle.bw_encode.specs.Rows.{FieldRows, is_device_fault, rows_of};
 
-    /// Reads the selected fields of the records of a text after its heading. In memory are then the
-    /// bytes of these fields, and eight more a field.
+    /// Reads the selected fields of the records of a text after its heading. In memory are then
+    /// sixteen bytes a field of a column of numbers; of any other, its bytes and eight more.
     ///
     /// Errors: the first wrong record, of which the heading is record 0: 201, a text without a
     /// record; then for the heading 209, a loose quotation mark, unless the dialect is lenient, and

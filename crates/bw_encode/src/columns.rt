@@ -3,7 +3,6 @@ ghost use Rattle.std.specs.Prelude.{◌≡◌, ◌+◌, ◌-◌, ◌<◌, ◌≤
 ghost use Rattle.std.specs.Prelude.{not, slice_index_or, OnOk, IfOk, IfErr, replicate, drop, Ok};
 ghost use Rattle.std.specs.Prelude.{Err};
 ghost use Rattle.std.specs.Prelude.{false};
-ghost use Rattle.csv.specs.Reading.{is_bom, strip_bom};
 ghost use Rattle.bw_model.specs.Fault.{is_memory};
 ghost use Rattle.bw_model.specs.Limits.{most_columns, most_rows};
 ghost use Rattle.bw_encode.specs.Dialect.{loose_in, records_in};
@@ -13,18 +12,20 @@ ghost use Rattle.bw_encode.specs.Rows.{AddsRow, AreColumnsOf, heading_checked, i
 ghost use Rattle.bw_encode.specs.Rest.{bytes_read, text_past};
 ghost use Rattle.bw_encode.specs.Selection.{count_in, row_of, up_to};
 
+use crate::column_fields::ColumnFields;
 use crate::dialect::Dialect;
-use crate::fields::Fields;
 use crate::place::Place;
-use crate::records::{After, read_record, skip_bytes};
+use crate::record_fields::RecordFields;
+use crate::records::After;
 use crate::selection::Selection;
+use bw_csv::after_byte_order_mark;
 use bw_model::{Fault, MAX_COLUMNS, MAX_ROWS, code};
 use std::alloc::{AllocError, Global};
 
 /// The columns of a text, and how many of its bytes were read.
 #[derive(Drop)]
 pub(crate) struct ReadColumns {
-    pub(crate) columns: Vec<Fields>,
+    pub(crate) columns: Vec<ColumnFields>,
     pub(crate) bytes_read: usize,
 }
 
@@ -52,11 +53,9 @@ pub(crate) fn read_columns(
         → rows_of dialect selection.entry text.now ≡ Err fault) }
     ensures device { IfErr result (λ fault. is_device_fault fault ≡ false) }
 {
-    let mut record = Fields::new(alloc);
-    let mut field = Vec::new(alloc);
+    let mut record = RecordFields::new(alloc);
     let records = after_byte_order_mark(text);
-    let found = read_record(dialect, records, Place::Before, &mut record, &mut field)?;
-    let Some(heading) = found else {
+    let Some(heading) = record.read(dialect, records, Place::Before)? else {
         return Err(Fault::at_record(code::NO_HEADING, 0));
     };
     let width = record.len();
@@ -68,7 +67,6 @@ pub(crate) fn read_columns(
         width,
         heading,
         &mut record,
-        &mut field,
         &mut columns,
     )?;
     Ok(ReadColumns {
@@ -79,14 +77,13 @@ pub(crate) fn read_columns(
 
 /// Reads the records after a heading of `width` fields into columns, which are empty. Returns how
 /// many bytes follow the last record that is read; none, if no record follows it.
-fn read_rows(
+fn read_rows<'a>(
     dialect: Dialect,
     selection: Selection<'_>,
     width: usize,
-    heading: After<'_>,
-    row: &mut Fields,
-    field: &mut Vec<u8>,
-    columns: &mut Vec<Fields>,
+    heading: After<'a>,
+    row: &mut RecordFields<'a>,
+    columns: &mut Vec<ColumnFields>,
 ) -> Result<usize, Fault>
     requires { columns.old.items ≡ replicate (count_in selection.columns width) [] }
     ensures rows { OnOk result ((rows : List (List (List ℕ)))
@@ -108,7 +105,7 @@ fn read_rows(
     let mut text = heading.text;
     let mut place = heading.place;
     let mut number: u32 = 1;
-    'rows: while let Some(after) = read_record(dialect, text, place, row, field)? {
+    'rows: while let Some(after) = row.read(dialect, text, place)? {
         if selection.is_past(number) {
             return Ok(text.len());
         }
@@ -166,8 +163,8 @@ fn check_record(is_rejected: bool, has_length: bool, number: u32) -> Result<(), 
 fn add_row(
     selection: Selection<'_>,
     width: usize,
-    fields: &Fields,
-    columns: &mut Vec<Fields>,
+    fields: &RecordFields<'_>,
+    columns: &mut Vec<ColumnFields>,
 ) -> Result<(), AllocError>
     requires { length columns.old.items ≡ count_in selection.columns width }
     ensures { OnOk result (AddsRow (row_of selection.entry width fields.now) columns.old.items
@@ -180,33 +177,12 @@ fn add_row(
 }
 
 /// Returns columns without rows. Fails only if memory is refused.
-fn empty_columns(alloc: Global, width: usize) -> Result<Vec<Fields>, AllocError>
+fn empty_columns(alloc: Global, width: usize) -> Result<Vec<ColumnFields>, AllocError>
     ensures { IfOk result (λ columns. columns.items ≡ replicate width []) }
 {
     let mut columns = Vec::with_capacity(alloc, width)?;
     for _ in 0..width {
-        columns.push(Fields::new(alloc))?;
+        columns.push(ColumnFields::new(alloc))?;
     }
     Ok(columns)
-}
-
-/// Returns a text without the byte order mark at its start, if it has one.
-#[tactic(auto, using(bw_csv::proofs::HeadingLemmas::byte_order_marks))]
-fn after_byte_order_mark(text: &[u8]) -> &[u8]
-    ensures { result.now ≡ strip_bom text.now }
-{
-    if text.len() < 3 {
-        return text;
-    }
-    if is_byte_order_mark(text[0], text[1], text[2]) {
-        skip_bytes(text, 3)
-    } else {
-        text
-    }
-}
-
-fn is_byte_order_mark(a: u8, b: u8, c: u8) -> bool
-    ensures { result ≡ is_bom a b c }
-{
-    a == 0xEF && b == 0xBB && c == 0xBF
 }

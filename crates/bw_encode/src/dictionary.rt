@@ -21,6 +21,9 @@ pub(crate) struct Dictionary<'a> {
     pub(crate) codes: Vec<u32>,
 }
 
+// At most so much room is made before the first field.
+const MOST_FIELDS: usize = 1 << 20;
+
 /// Returns the dictionary of a column of at most 2^24 rows. Fails only if memory is refused.
 pub(crate) fn dictionary_of<'a>(
     alloc: Global,
@@ -33,7 +36,7 @@ pub(crate) fn dictionary_of<'a>(
     ensures encoded { IfOk result (λ dictionary. IsEncoded column.now
         (texts_under dictionary.fields.items) dictionary.counts.items dictionary.codes.items) }
 {
-    let mut set = FieldSet::new(alloc, hasher);
+    let mut set = set_for(alloc, hasher, column)?;
     let places = insert_fields(alloc, column, &mut set)?;
     let firsts = set.fields(alloc)?;
     let SortedFields { fields, ranks } = sort_fields(alloc, &firsts)?;
@@ -50,6 +53,17 @@ pub(crate) fn dictionary_of<'a>(
         counts,
         codes,
     })
+}
+
+/// Returns a set of no fields, with room for those of a column. Fails only if memory is refused.
+fn set_for<'a>(
+    alloc: Global,
+    hasher: RandomState,
+    column: &Fields,
+) -> Result<FieldSet<'a>, AllocError>
+    ensures { IfOk result (λ set. fields_in set ≡ []) }
+{
+    FieldSet::new(alloc, hasher, column.len().min(MOST_FIELDS))
 }
 
 /// Adds the fields of a column to a set, which is empty. Returns the place of each field in it.

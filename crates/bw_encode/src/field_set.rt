@@ -58,13 +58,18 @@ impl<'a> FieldSet<'a> {
     ghost use Rattle.bw_encode.specs.Fields.{texts_under};
     ghost use Rattle.bw_encode.specs.FieldSet.{fields_in, AreDistinct};
 
-    /// Returns a set of no fields, whose hashes depend on the hasher's keys.
-    pub(crate) fn new(alloc: Global, hasher: RandomState) -> Self
-        ensures { fields_in result ≡ [] }
+    /// Returns a set of no fields, with room for some, whose hashes depend on the hasher's keys. Fails
+    /// only if memory is refused.
+    pub(crate) fn new(
+        alloc: Global,
+        hasher: RandomState,
+        capacity: usize,
+    ) -> Result<Self, AllocError>
+        ensures { IfOk result (λ set. fields_in set ≡ []) }
     {
-        FieldSet {
-            keys: IndexSet::with_hasher(alloc, hasher),
-        }
+        Ok(FieldSet {
+            keys: IndexSet::with_capacity_and_hasher(alloc, capacity, hasher)?,
+        })
     }
 
     /// Adds a field, unless the set has it. Returns its place. Fails only if memory is refused.

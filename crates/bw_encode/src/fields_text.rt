@@ -7,7 +7,7 @@ ghost use Rattle.bw_encode.specs.FieldsText.{encoding_bytes, end_bytes, fields_b
 ghost use Rattle.bw_encode.specs.FieldsText.{lengths_bytes};
 ghost use Rattle.bw_encode.specs.FieldsText.{list_bytes, number_bytes, numbers_bytes};
 
-use crate::coded::Coded;
+use crate::coded::{Coded, Coding};
 use crate::dictionary::Dictionary;
 use std::alloc::{AllocError, Global};
 
@@ -52,12 +52,12 @@ fn push_column(text: &mut Vec<u8>, column: &Coded<'_>) -> Result<(), AllocError>
     ensures { OnOk result (text.new.items ≡ text.old.items
         ++ encoding_bytes (encoding_of column.now)) }
 {
-    match &column.dictionary {
-        None => {
+    match &column.coding {
+        Coding::Numbers(_) => {
             text.push(0)?;
             Ok(())
         }
-        Some(dictionary) => {
+        Coding::Codes(dictionary) => {
             text.push(1)?;
             push_list(text, dictionary)
         }

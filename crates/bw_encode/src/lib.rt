@@ -16,7 +16,9 @@
 
 mod coded;
 mod coded_table;
+mod column_fields;
 mod columns;
+mod cut;
 mod dialect;
 mod dictionary;
 mod encode_call;
@@ -25,9 +27,9 @@ mod fields;
 mod fields_text;
 mod laws;
 mod number;
-mod numbers;
 mod place;
 mod ranked;
+mod record_fields;
 mod records;
 mod seen;
 mod selection;

@@ -1,7 +1,8 @@
 //! Where a byte is in a record, and what it does there.
 ghost use Rattle.std.specs.Prelude.{◌≡◌};
 ghost use Rattle.csv.specs.Machine.{step, in_field, start_field, start_record, ends_at_end};
-ghost use Rattle.csv.specs.Machine.{is_byte, is_end};
+ghost use Rattle.csv.specs.Machine.{after_end, is_byte, is_end};
+ghost use Rattle.csv.specs.declared.parser.Terminator.TheVariants.{CRLF};
 ghost use Rattle.bw_encode.specs.Dialect.{config_of, goes_on_bare, is_open};
 ghost use Rattle.bw_encode.specs.Place.{state_of, action_of};
 ghost use Rattle.bw_encode.specs.Run.{joins_bare, joins_quoted};
@@ -143,8 +144,19 @@ pub(crate) fn joins_quoted(dialect: Dialect, c: u8) -> bool
     !(c == dialect.quote || is_byte(dialect.escape, c))
 }
 
+/// Returns the place after the end of a line.
+pub(crate) fn place_after(end: u8) -> Place
+    ensures { state_of result ≡ after_end CRLF end }
+{
+    if end == b'\r' {
+        Place::Returned
+    } else {
+        Place::Before
+    }
+}
+
 /// Returns whether the byte is this one, if there is one.
-fn is_byte(byte: Option<u8>, c: u8) -> bool
+pub(crate) fn is_byte(byte: Option<u8>, c: u8) -> bool
     ensures { result ≡ is_byte byte c }
 {
     match byte {

@@ -5,73 +5,18 @@ ghost use Rattle.bw_model.specs.Limits.{most_rows};
 ghost use Rattle.bw_encode.specs.Dictionary.{IsAscending};
 ghost use Rattle.bw_encode.specs.Fields.{texts_under};
 ghost use Rattle.bw_encode.specs.FieldSet.{AreDistinct};
-ghost use Rattle.bw_encode.specs.Ranked.{ArePlaced, AreRanks, HasOwnPlaces, entries_bytes};
+ghost use Rattle.bw_encode.specs.Ranked.{ArePlaced, ArePrefixed, AreRanks, HasOwnPlaces};
+ghost use Rattle.bw_encode.specs.Ranked.{IsPrefix, entries_bytes};
 
 use std::alloc::{AllocError, Global};
-use std::cmp::Ordering;
 
-/// The bytes of a field, by which it is compared, and its place before sorting.
-#[derive(Clone, Copy)]
+/// A field with its place before sorting. Fields are compared by the number that their first bytes
+/// are, and then by all their bytes.
+#[derive(Clone, Copy, PartialEq, Eq, PartialOrd, Ord)]
 pub(crate) struct Ranked<'a> {
+    pub(crate) prefix: u64,
     pub(crate) bytes: &'a [u8],
     pub(crate) place: u32,
-}
-
-impl PartialEq for Ranked<'_> {
-    ghost use Rattle.std.specs.Str.{bytes_eq};
-    ghost use Rattle.std.specs.Cmp.Lexicographic.{nat_list_eq_equiv};
-    ghost use Rattle.std.specs.Cmp.Rules.{comparing};
-    ghost use Rattle.std.proofs.Common.{rules};
-
-    ghost eq = { λ a b. bytes_eq a.bytes.now b.bytes.now };
-
-    ghost laws = { Prim.search (comparing, rules) };
-
-    fn eq(&self, other: &Self) -> bool {
-        self.bytes == other.bytes
-    }
-}
-
-impl Eq for Ranked<'_> {
-    ghost use Rattle.std.specs.Cmp.Rules.{comparing};
-    ghost use Rattle.std.proofs.Common.{rules};
-
-    ghost laws = { Prim.search (comparing, rules) };
-}
-
-impl PartialOrd for Ranked<'_> {
-    ghost use Rattle.std.specs.Prelude.{Some};
-    ghost use Rattle.std.specs.Cmp.Lexicographic.{slice_cmp};
-    ghost use Rattle.std.specs.Ordering.{nat_cmp};
-    ghost use Rattle.std.specs.Cmp.Rules.{comparing};
-    ghost use Rattle.std.proofs.Common.{rules};
-
-    ghost partial_cmp = { λ a b. Some (slice_cmp nat_cmp a.bytes.now b.bytes.now) };
-
-    ghost laws = { Prim.search (comparing, rules) };
-
-    fn partial_cmp(&self, other: &Self) -> Option<Ordering> {
-        Some(self.bytes.cmp(other.bytes))
-    }
-}
-
-impl Ord for Ranked<'_> {
-    ghost use Rattle.std.specs.Cmp.Lexicographic.{slice_cmp};
-    ghost use Rattle.std.specs.Ordering.{nat_cmp};
-    ghost use Rattle.std.specs.Cmp.Rules.{comparing};
-    ghost use Rattle.std.proofs.Common.{rules};
-
-    ghost cmp = { λ a b. slice_cmp nat_cmp a.bytes.now b.bytes.now };
-
-    ghost total = { Prim.search (comparing, rules) };
-
-    ghost matches_partial_cmp = { Prim.search (comparing, rules) };
-
-    ghost matches_eq = { Prim.search (comparing, rules) };
-
-    fn cmp(&self, other: &Self) -> Ordering {
-        self.bytes.cmp(other.bytes)
-    }
 }
 
 /// Fields in the order of bytes, and for each field, in its old order, its new place.
@@ -109,15 +54,29 @@ fn place_fields<'a>(alloc: Global, fields: &[&'a [u8]]) -> Result<Vec<Ranked<'a>
     requires { length fields.now ≤ most_rows }
     ensures bytes { IfOk result (λ entries. entries_bytes entries.items ≡ texts_under fields.now) }
     ensures placed { IfOk result (λ entries. ArePlaced entries.items) }
+    ensures prefixed { IfOk result (λ entries. ArePrefixed entries.items) }
 {
     let mut entries: Vec<Ranked<'a>> = Vec::with_capacity(alloc, fields.len())?;
     for (place, bytes) in fields.iter().enumerate() {
         entries.push(Ranked {
+            prefix: prefix_of(bytes),
             bytes,
             place: place as u32,
         })?;
     }
     Ok(entries)
+}
+
+/// Returns the number that the first eight bytes of a text are, the first one being the highest. A
+/// byte that isn't there counts as 0.
+fn prefix_of(bytes: &[u8]) -> u64
+    ensures { IsPrefix bytes.now result }
+{
+    let mut prefix: u64 = 0;
+    for i in 0..8 {
+        prefix = prefix * 256 + u64::from(bytes.get(i).copied().unwrap_or(0));
+    }
+    prefix
 }
 
 /// Returns for each place the index of the entry that has it. Fails only if memory is refused.

@@ -87,7 +87,7 @@ fn run_length(dialect: Dialect, place: Place, text: &[u8]) -> usize
 }
 
 /// Returns how many bytes of a text precede the end of an unquoted field.
-fn bare_length(separator: u8, text: &[u8]) -> usize
+pub(crate) fn bare_length(separator: u8, text: &[u8]) -> usize
     ensures is { result ≡ prefix_len (joins_bare separator) text.now }
     ensures within { result ≤ length text.now }
 {
@@ -97,7 +97,7 @@ fn bare_length(separator: u8, text: &[u8]) -> usize
 }
 
 /// Returns how many bytes of a text precede a quotation mark or an escape.
-fn quoted_length(dialect: Dialect, text: &[u8]) -> usize
+pub(crate) fn quoted_length(dialect: Dialect, text: &[u8]) -> usize
     ensures is { result ≡ prefix_len (joins_quoted dialect) text.now }
     ensures within { result ≤ length text.now }
 {

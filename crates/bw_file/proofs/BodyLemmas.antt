@@ -1,7 +1,7 @@
 -- Reading segments block by block.
 use Rattle.std.proofs.Common.{◌≡◌, true, false, ℕ, zero, suc, ◌+◌, ◌-◌, ◌*◌, ◌<◌, ◌≤◌, Bool, ◌&&◌}
 use Rattle.std.proofs.Common.{◌||◌, ◌==◌, nat_le, List, [], ◌++◌, length, Option, Some, None, refl}
-use Rattle.std.proofs.Common.{subst, ◌∙◌, arith, inl, inr, drop, get_or}
+use Rattle.std.proofs.Common.{subst, sym, ◌∙◌, arith, inl, inr, drop, get_or, Result}
 use Rattle.std.specs.Int.{bit_at}
 use Rattle.std.specs.List.{list_any, range_with_len}
 use Rattle.bw_model.specs.declared.column.Column.{Column}
@@ -14,9 +14,9 @@ use Rattle.bw_segment.proofs.LayoutLemmas.{block_added}
 use Rattle.bw_file.specs.Blocks.{form_of, bytes_before, block_size, block_fault, AreSound}
 use Rattle.bw_file.specs.Blocks.{rows_spelled}
 use Rattle.bw_file.specs.Reading.{◌>>=◌, give, field, State, HasConsumed, GoesOn, Fails}
-use Rattle.bw_file.specs.Reading.{HasByteMore}
+use Rattle.bw_file.specs.Reading.{HasByteMore, Reads}
 use Rattle.bw_file.specs.TableReading.{plane_has_padding, has_padding, padding_from, fault_place}
-use Rattle.bw_file.specs.TableReading.{sound_at, one_block, blocks, segment}
+use Rattle.bw_file.specs.TableReading.{sound_at, one_block, blocks, segment, IsValidAt}
 use Rattle.bw_file.proofs.ReadingLemmas.{took_nothing, needs_none, begins, passes, stops, refuses}
 
 -- a block is taken, and then judged
@@ -44,6 +44,16 @@ pub block_bad : (layout : Layout) (schema : List Column) (rows number code place
 block_bad layout schema rows number code place bytes old new p e at =
     rw at (refuses (one_block layout schema rows number) (sound_at old.offset layout schema rows number bytes (Some code)) old new code
     (old.offset + fault_place layout schema rows number bytes code) (block_taken layout schema rows number bytes (Some code) old new p e) (λ rest. refl))
+
+-- a block that was validated
+pub block_validated : (layout : Layout) (schema : List Column) (rows number : ℕ) (bytes : List ℕ) (old new : State) (found : Option ℕ) (result : Result (Unit {0}) Fault)
+    → GoesOn (field (block_size layout schema number)) old (give bytes) new → block_fault layout schema number rows bytes ≡ found → IsValidAt old.offset layout schema rows number bytes found result
+    → Reads (λ (_ : Unit {0}). bytes) (one_block layout schema rows number) old new result
+block_validated layout schema rows number bytes old new None result p e valid =
+    subst (Reads (λ (_ : Unit {0}). bytes) (one_block layout schema rows number) old new) (sym valid) (block_good layout schema rows number bytes old new p e)
+block_validated layout schema rows number bytes old new (Some code) result p e valid =
+    subst (Reads (λ (_ : Unit {0}). bytes) (one_block layout schema rows number) old new) (sym valid)
+    (block_bad layout schema rows number code (old.offset + fault_place layout schema rows number bytes code) bytes old new p e refl)
 
 pub block_stops : (layout : Layout) (schema : List Column) (rows number : ℕ) (old new : State) (fault : Fault) → Fails (field (block_size layout schema number)) old new fault
     → Fails (one_block layout schema rows number) old new fault

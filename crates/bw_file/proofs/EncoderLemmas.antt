@@ -16,6 +16,8 @@ use Rattle.bw_model.proofs.GroupLemmas.{groups_of-nothing, groups_of-first}
 use Rattle.bw_file.specs.declared.encoder.Encoder.{Encoder}
 use Rattle.bw_file.specs.Encoder.{Holds, IsAsBefore}
 use Rattle.bw_file.specs.declared.layout.Layout.{Layout}
+use Rattle.bw_file.specs.declared.order.FileOrder.{FileOrder}
+use Rattle.bw_file.specs.declared.order.FileOrder.TheVariants.{ByRows, ByColumns}
 use Rattle.bw_file.specs.Blocks.{segment_bytes}
 use Rattle.bw_file.specs.FileBytes.{AreRows, magic, front_bytes, header_bytes, segments_bytes}
 use Rattle.bw_file.specs.FileBytes.{bytes_of_version, file_bytes, version_for}
@@ -74,21 +76,22 @@ segments_more layout columns count head before group whole some few =
     ∙ ap (λ (groups : List (List (List Value))). head ++ flat_map (segment_bytes layout columns) groups) (sym (groups_more count before group whole some few))
 
 -- so the number of rows is put into a header
-pub rows_put : (version : ℕ) (layout : Layout) (name : List ℕ) (columns : List Column) (rows : ℕ) (rest : List ℕ)
-    → take 12 (header_bytes version layout name columns 0 ++ rest) ++ to_le_bytes w32 rows ++ drop 16 (header_bytes version layout name columns 0 ++ rest)
-    ≡ header_bytes version layout name columns rows ++ rest
+pub rows_put : (order : FileOrder) (version : ℕ) (layout : Layout) (name : List ℕ) (columns : List Column) (rows : ℕ) (rest : List ℕ)
+    → take 12 (header_bytes order version layout name columns 0 ++ rest) ++ to_le_bytes w32 rows ++ drop 16 (header_bytes order version layout name columns 0 ++ rest)
+    ≡ header_bytes order version layout name columns rows ++ rest
 unfolding header_bytes front_bytes magic
-rows_put version layout name columns rows rest = refl
+rows_put ByRows version layout name columns rows rest = refl
+rows_put ByColumns version layout name columns rows rest = refl
 
 -- the text with the group that an encoder kept
 pub bytes_flushed : (encoder : Encoder) (rows : List (List Value)) (bytes : List ℕ) → 0 < encoder.filled → (holds : Holds encoder rows)
     → bytes ≡ encoder.bytes.items ++ segment_bytes encoder.layout encoder.placement.schema.columns.items holds.group
-    → bytes ≡ header_bytes (version_for encoder.placement.schema.columns.items) encoder.layout encoder.placement.schema.name encoder.placement.schema.columns.items 0
+    → bytes ≡ header_bytes ByRows (version_for encoder.placement.schema.columns.items) encoder.layout encoder.placement.schema.name encoder.placement.schema.columns.items 0
     ++ segments_bytes encoder.layout encoder.placement.schema.columns.items rows
 unfolding group_size
 bytes_flushed encoder rows bytes some holds added =
     let columns = encoder.placement.schema.columns.items in
-    let head = header_bytes (version_for columns) encoder.layout encoder.placement.schema.name columns 0 in
+    let head = header_bytes ByRows (version_for columns) encoder.layout encoder.placement.schema.name columns 0 in
     let size = holds.filled in
     added ∙ ap (λ (front : List ℕ). front ++ segment_bytes encoder.layout columns holds.group) holds.text
     ∙ segments_more encoder.layout columns holds.groups head holds.before holds.group holds.whole (omega (arith, size)) (omega (arith, size, encoder.within_limit))
@@ -109,9 +112,10 @@ admitted_more columns rows row are lt admitted = record {
 }
 
 -- a header takes sixteen bytes at least
-pub header_long : (version : ℕ) (layout : Layout) (name : List ℕ) (columns : List Column) (rows : ℕ) → 16 ≤ length (header_bytes version layout name columns rows)
+pub header_long : (order : FileOrder) (version : ℕ) (layout : Layout) (name : List ℕ) (columns : List Column) (rows : ℕ) → 16 ≤ length (header_bytes order version layout name columns rows)
 unfolding header_bytes front_bytes magic
-header_long version layout name columns rows = omega arith
+header_long ByRows version layout name columns rows = omega arith
+header_long ByColumns version layout name columns rows = omega arith
 
 -- no rows have no text
 pub segments_none : (layout : Layout) (columns : List Column) (head : List ℕ) → head ≡ head ++ segments_bytes layout columns []
@@ -120,19 +124,19 @@ segments_none layout columns head = rw (groups_of-nothing {A = List Value}) (sym
 
 -- the bytes of a table whose rows are all in them, once their number is
 pub bytes_finished : (encoder : Encoder) (rows : List (List Value)) (bytes text : List ℕ) (count : ℕ)
-    → bytes ≡ header_bytes (version_for encoder.placement.schema.columns.items) encoder.layout encoder.placement.schema.name encoder.placement.schema.columns.items 0
+    → bytes ≡ header_bytes ByRows (version_for encoder.placement.schema.columns.items) encoder.layout encoder.placement.schema.name encoder.placement.schema.columns.items 0
     ++ segments_bytes encoder.layout encoder.placement.schema.columns.items rows
     → count ≡ length rows → text ≡ take 12 bytes ++ to_le_bytes w32 count ++ drop 16 bytes → text ≡ file_bytes encoder.layout encoder.placement.schema rows
 unfolding bytes_of_version
 bytes_finished encoder rows bytes text count has same put =
     let columns = encoder.placement.schema.columns.items in
     put ∙ ap (λ (front : List ℕ). take 12 front ++ to_le_bytes w32 count ++ drop 16 front) has
-    ∙ rows_put (version_for columns) encoder.layout encoder.placement.schema.name columns count (segments_bytes encoder.layout columns rows)
-    ∙ ap (λ (n : ℕ). header_bytes (version_for columns) encoder.layout encoder.placement.schema.name columns n ++ segments_bytes encoder.layout columns rows) same
+    ∙ rows_put ByRows (version_for columns) encoder.layout encoder.placement.schema.name columns count (segments_bytes encoder.layout columns rows)
+    ∙ ap (λ (n : ℕ). header_bytes ByRows (version_for columns) encoder.layout encoder.placement.schema.name columns n ++ segments_bytes encoder.layout columns rows) same
 
 -- an encoder that keeps no rows has them all in its text
 pub bytes_held_by : (encoder : Encoder) (rows : List (List Value)) → encoder.filled ≡ 0 → (holds : Holds encoder rows)
-    → encoder.bytes.items ≡ header_bytes (version_for encoder.placement.schema.columns.items) encoder.layout encoder.placement.schema.name encoder.placement.schema.columns.items 0
+    → encoder.bytes.items ≡ header_bytes ByRows (version_for encoder.placement.schema.columns.items) encoder.layout encoder.placement.schema.name encoder.placement.schema.columns.items 0
     ++ segments_bytes encoder.layout encoder.placement.schema.columns.items rows
 bytes_held_by encoder rows none holds =
     let none_left : holds.group ≡ [] = nil_from_length holds.group (omega (arith, none, holds.filled)) in

@@ -14,13 +14,14 @@ use Rattle.bw_io.specs.Source.{is_read_fault, is_input_fault}
 use Rattle.bw_segment.specs.BlockFault.{or_else, padding_fault, row_fault, first_fault, lanes_fault}
 use Rattle.bw_segment.specs.BlockFault as faults
 use Rattle.bw_file.specs.declared.layout.Layout.{Layout}
+use Rattle.bw_file.specs.declared.order.FileOrder.{FileOrder}
 use Rattle.bw_file.specs.declared.layout.Layout.TheVariants.{Planes, Slices}
 use Rattle.bw_file.specs.Blocks.{block_fault}
 use Rattle.bw_file.specs.Reading.{Tail, tail, Reading, and_then, ◌>>=◌, field, parsed_at, read_field}
 use Rattle.bw_file.specs.Reading.{State, Fails, HasByteMore}
 use Rattle.bw_file.specs.TableReading.{parse_magic, parse_version, parse_layout, parse_count}
 use Rattle.bw_file.specs.TableReading.{parse_row_count, parse_bounds, parse_nullable, parse_name}
-use Rattle.bw_file.specs.TableReading.{name, column, columns, front, header, fault_place, sound_at}
+use Rattle.bw_file.specs.TableReading.{name, column, columns, front, header_in, fault_place, sound_at}
 use Rattle.bw_file.specs.TableReading.{one_block, blocks, segment, IsTableFault}
 
 -- a number that is one of them wherever it is, and reading that rejects by them alone
@@ -55,13 +56,13 @@ if_own : {A : Type 0} (b : Bool) (first second : Result A ℕ) → IfErr first I
 if_own true first second here there = here
 if_own false first second here there = there
 
-magic_own : (bytes : List ℕ) → IfErr (parse_magic bytes) IsOwn
+magic_own : (order : FileOrder) (bytes : List ℕ) → IfErr (parse_magic order bytes) IsOwn
 unfolding parse_magic
-magic_own bytes = if_own _ (Ok _) (Err 301) tt (λ _. refl)
+magic_own order bytes = if_own _ (Ok _) (Err 301) tt (λ _. refl)
 
-version_own : (bytes : List ℕ) → IfErr (parse_version bytes) IsOwn
+version_own : (order : FileOrder) (bytes : List ℕ) → IfErr (parse_version order bytes) IsOwn
 unfolding parse_version
-version_own bytes = if_own _ (Ok _) (Err 302) tt (λ _. refl)
+version_own order bytes = if_own _ (Ok _) (Err 302) tt (λ _. refl)
 
 layout_own : (bytes : List ℕ) → IfErr (parse_layout bytes) IsOwn
 unfolding parse_layout
@@ -103,15 +104,15 @@ unfolding columns
 columns_own version before zero = λ t. tt
 columns_own version before (suc count) = then_own _ _ (column_own version (shape_names before)) (λ next. columns_own version (before ++ next ∷ []) count)
 
-front_own : RefusesOwn front
+front_own : (order : FileOrder) → RefusesOwn (front order)
 unfolding front
-front_own = then_own _ _ (read_field_own 8 parse_magic magic_own) (λ _. then_own _ _ (read_field_own 1 parse_version version_own)
+front_own order = then_own _ _ (read_field_own 8 (parse_magic order) (magic_own order)) (λ _. then_own _ _ (read_field_own 1 (parse_version order) (version_own order))
     (λ version. then_own _ _ (read_field_own 1 parse_layout layout_own) (λ layout. then_own _ _ (read_field_own 2 parse_count count_own)
     (λ count. then_own _ _ (read_field_own 4 parse_row_count rows_own) (λ rows t. tt)))))
 
-pub header_own : RefusesOwn header
-unfolding header
-header_own = then_own _ _ front_own (λ first. then_own _ _ (name_own []) (λ text. then_own _ _ (columns_own first.version [] first.columns) (λ found t. tt)))
+pub header_own : (order : FileOrder) → RefusesOwn (header_in order)
+unfolding header_in
+header_own order = then_own _ _ (front_own order) (λ first. then_own _ _ (name_own []) (λ text. then_own _ _ (columns_own first.version [] first.columns) (λ found t. tt)))
 
 -- the error of a block, if it has one
 some_own : (b : Bool) (code : ℕ) (other : Option ℕ) → IsOwn code → IfSome other IsOwn → IfSome (if b then Some code else other) IsOwn

@@ -14,7 +14,8 @@ use Rattle.bw_file.specs.Reading.{◌>>=◌, give, field, parsed_at, read_field,
 use Rattle.bw_file.specs.TableReading.{name, parse_name, column, columns, parse_magic}
 use Rattle.bw_file.specs.TableReading.{parse_version, parse_layout, parse_count, parse_row_count}
 use Rattle.bw_file.specs.TableReading.{parse_bounds, parse_nullable, FrontShape, front_of, front}
-use Rattle.bw_file.specs.TableReading.{header_of, header}
+use Rattle.bw_file.specs.declared.order.FileOrder.{FileOrder}
+use Rattle.bw_file.specs.TableReading.{header_of, header_in}
 use Rattle.bw_file.proofs.ReadingLemmas.{took_nothing, needs_none, begins, passes, stops, refuses}
 use Rattle.bw_model.proofs.SchemaLemmas.{shape_names-of}
 
@@ -114,44 +115,44 @@ pub names_in : (slice found : List Column) → slice ≡ found → names_of slic
 names_in slice found e = ap names_of e ∙ sym (shape_names-of found)
 
 -- the sixteen bytes of the front
-pub magic_read : (old a : State) → GoesOn (read_field 8 parse_magic) old (give tt) a
-    → GoesOn front old (read_field 1 parse_version >>= λ version. read_field 1 parse_layout >>= λ layout. read_field 2 parse_count >>= λ count. read_field 4 parse_row_count >>= λ rows.
+pub magic_read : (order : FileOrder) → (old a : State) → GoesOn (read_field 8 (parse_magic order)) old (give tt) a
+    → GoesOn (front order) old (read_field 1 (parse_version order) >>= λ version. read_field 1 parse_layout >>= λ layout. read_field 2 parse_count >>= λ count. read_field 4 parse_row_count >>= λ rows.
     give (front_of version layout count rows)) a
 unfolding front
-magic_read old a p =
-    passes front (read_field 8 parse_magic) (λ _. read_field 1 parse_version >>= λ version. read_field 1 parse_layout >>= λ layout. read_field 2 parse_count >>= λ count. read_field 4 parse_row_count >>= λ rows.
-    give (front_of version layout count rows)) tt old old a (begins front old) p
+magic_read order old a p =
+    passes (front order) (read_field 8 (parse_magic order)) (λ _. read_field 1 (parse_version order) >>= λ version. read_field 1 parse_layout >>= λ layout. read_field 2 parse_count >>= λ count. read_field 4 parse_row_count >>= λ rows.
+    give (front_of version layout count rows)) tt old old a (begins (front order) old) p
 
-pub version_read : (version : ℕ) (old a b : State) → GoesOn (read_field 8 parse_magic) old (give tt) a → GoesOn (read_field 1 parse_version) a (give version) b
-    → GoesOn front old (read_field 1 parse_layout >>= λ layout. read_field 2 parse_count >>= λ count. read_field 4 parse_row_count >>= λ rows. give (front_of version layout count rows)) b
-version_read version old a b p q = passes front (read_field 1 parse_version) _ version old a b (magic_read old a p) q
+pub version_read : (order : FileOrder) → (version : ℕ) (old a b : State) → GoesOn (read_field 8 (parse_magic order)) old (give tt) a → GoesOn (read_field 1 (parse_version order)) a (give version) b
+    → GoesOn (front order) old (read_field 1 parse_layout >>= λ layout. read_field 2 parse_count >>= λ count. read_field 4 parse_row_count >>= λ rows. give (front_of version layout count rows)) b
+version_read order version old a b p q = passes (front order) (read_field 1 (parse_version order)) _ version old a b (magic_read order old a p) q
 
-pub layout_read : (version : ℕ) (layout : Layout) (old a b c : State) → GoesOn (read_field 8 parse_magic) old (give tt) a → GoesOn (read_field 1 parse_version) a (give version) b
+pub layout_read : (order : FileOrder) → (version : ℕ) (layout : Layout) (old a b c : State) → GoesOn (read_field 8 (parse_magic order)) old (give tt) a → GoesOn (read_field 1 (parse_version order)) a (give version) b
     → GoesOn (read_field 1 parse_layout) b (give layout) c
-    → GoesOn front old (read_field 2 parse_count >>= λ count. read_field 4 parse_row_count >>= λ rows. give (front_of version layout count rows)) c
-layout_read version layout old a b c p q r = passes front (read_field 1 parse_layout) _ layout old b c (version_read version old a b p q) r
+    → GoesOn (front order) old (read_field 2 parse_count >>= λ count. read_field 4 parse_row_count >>= λ rows. give (front_of version layout count rows)) c
+layout_read order version layout old a b c p q r = passes (front order) (read_field 1 parse_layout) _ layout old b c (version_read order version old a b p q) r
 
-pub count_read : (version : ℕ) (layout : Layout) (count : ℕ) (old a b c d : State) → GoesOn (read_field 8 parse_magic) old (give tt) a
-    → GoesOn (read_field 1 parse_version) a (give version) b → GoesOn (read_field 1 parse_layout) b (give layout) c → GoesOn (read_field 2 parse_count) c (give count) d
-    → GoesOn front old (read_field 4 parse_row_count >>= λ rows. give (front_of version layout count rows)) d
-count_read version layout count old a b c d p q r s = passes front (read_field 2 parse_count) _ count old c d (layout_read version layout old a b c p q r) s
+pub count_read : (order : FileOrder) → (version : ℕ) (layout : Layout) (count : ℕ) (old a b c d : State) → GoesOn (read_field 8 (parse_magic order)) old (give tt) a
+    → GoesOn (read_field 1 (parse_version order)) a (give version) b → GoesOn (read_field 1 parse_layout) b (give layout) c → GoesOn (read_field 2 parse_count) c (give count) d
+    → GoesOn (front order) old (read_field 4 parse_row_count >>= λ rows. give (front_of version layout count rows)) d
+count_read order version layout count old a b c d p q r s = passes (front order) (read_field 2 parse_count) _ count old c d (layout_read order version layout old a b c p q r) s
 
-pub front_read : (version : ℕ) (layout : Layout) (count rows : ℕ) (old a b c d e : State) → GoesOn (read_field 8 parse_magic) old (give tt) a
-    → GoesOn (read_field 1 parse_version) a (give version) b → GoesOn (read_field 1 parse_layout) b (give layout) c → GoesOn (read_field 2 parse_count) c (give count) d
-    → GoesOn (read_field 4 parse_row_count) d (give rows) e → GoesOn front old (give (front_of version layout count rows)) e
-front_read version layout count rows old a b c d e p q r s t = passes front (read_field 4 parse_row_count) _ rows old d e (count_read version layout count old a b c d p q r s) t
+pub front_read : (order : FileOrder) → (version : ℕ) (layout : Layout) (count rows : ℕ) (old a b c d e : State) → GoesOn (read_field 8 (parse_magic order)) old (give tt) a
+    → GoesOn (read_field 1 (parse_version order)) a (give version) b → GoesOn (read_field 1 parse_layout) b (give layout) c → GoesOn (read_field 2 parse_count) c (give count) d
+    → GoesOn (read_field 4 parse_row_count) d (give rows) e → GoesOn (front order) old (give (front_of version layout count rows)) e
+front_read order version layout count rows old a b c d e p q r s t = passes (front order) (read_field 4 parse_row_count) _ rows old d e (count_read order version layout count old a b c d p q r s) t
 
 -- the header: its front, the table's name, and the columns
-pub header_fronted : (first : FrontShape) (old a : State) → GoesOn front old (give first) a
-    → GoesOn header old (name [] >>= λ text. columns first.version [] first.columns >>= λ found. give (header_of first text found)) a
-unfolding header
-header_fronted first old a p =
-    passes header front (λ first. name [] >>= λ text. columns first.version [] first.columns >>= λ found. give (header_of first text found)) first old old a (begins header old) p
+pub header_fronted : (order : FileOrder) → (first : FrontShape) (old a : State) → GoesOn (front order) old (give first) a
+    → GoesOn (header_in order) old (name [] >>= λ text. columns first.version [] first.columns >>= λ found. give (header_of first text found)) a
+unfolding header_in
+header_fronted order first old a p =
+    passes (header_in order) (front order) (λ first. name [] >>= λ text. columns first.version [] first.columns >>= λ found. give (header_of first text found)) first old old a (begins (header_in order) old) p
 
-pub header_named : (first : FrontShape) (text : List ℕ) (old a b : State) → GoesOn front old (give first) a → GoesOn (name []) a (give text) b
-    → GoesOn header old (columns first.version [] first.columns >>= λ found. give (header_of first text found)) b
-header_named first text old a b p q = passes header (name []) _ text old a b (header_fronted first old a p) q
+pub header_named : (order : FileOrder) → (first : FrontShape) (text : List ℕ) (old a b : State) → GoesOn (front order) old (give first) a → GoesOn (name []) a (give text) b
+    → GoesOn (header_in order) old (columns first.version [] first.columns >>= λ found. give (header_of first text found)) b
+header_named order first text old a b p q = passes (header_in order) (name []) _ text old a b (header_fronted order first old a p) q
 
-pub header_read : (first : FrontShape) (text : List ℕ) (found : List ColumnShape) (old a b new : State) → GoesOn front old (give first) a → GoesOn (name []) a (give text) b
-    → GoesOn (columns first.version [] first.columns) b (give found) new → GoesOn header old (give (header_of first text found)) new
-header_read first text found old a b new p q r = passes header (columns first.version [] first.columns) _ found old b new (header_named first text old a b p q) r
+pub header_read : (order : FileOrder) → (first : FrontShape) (text : List ℕ) (found : List ColumnShape) (old a b new : State) → GoesOn (front order) old (give first) a → GoesOn (name []) a (give text) b
+    → GoesOn (columns first.version [] first.columns) b (give found) new → GoesOn (header_in order) old (give (header_of first text found)) new
+header_read order first text found old a b new p q r = passes (header_in order) (columns first.version [] first.columns) _ found old b new (header_named order first text old a b p q) r

@@ -1,11 +1,13 @@
 pub mod BodyLemmas
 pub mod BodySpelling
+pub mod ColumnarLemmas
 pub mod EncoderLemmas
 pub mod FaultLemmas
 pub mod FileSpelling
 pub mod HeaderLemmas
 pub mod MemoryAnswers
 pub mod NextLemmas
+pub mod HeaderInMemory
 pub mod ReaderLemmas
 pub mod ReaderSpelling
 pub mod ReadingLemmas

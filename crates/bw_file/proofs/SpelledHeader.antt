@@ -20,6 +20,8 @@ use Rattle.bw_model.specs.SchemaText.{ColumnShape, shape, shape_names}
 use Rattle.bw_text.specs.Text.{same_text}
 use Rattle.bw_model.proofs.BitsLemmas.{both}
 use Rattle.bw_file.specs.declared.layout.Layout.{Layout}
+use Rattle.bw_file.specs.declared.order.FileOrder.{FileOrder}
+use Rattle.bw_file.specs.declared.order.FileOrder.TheVariants.{ByRows, ByColumns}
 use Rattle.bw_file.specs.declared.layout.Layout.TheVariants.{Planes, Slices}
 use Rattle.bw_file.specs.FileBytes.{magic, layout_byte, flag_byte, front_bytes, name_bytes}
 use Rattle.bw_file.specs.FileBytes.{bound_bytes, column_bytes, are_bounds}
@@ -28,7 +30,7 @@ use Rattle.bw_file.specs.Reading.{read_field, NeedsEach}
 use Rattle.bw_file.specs.TableReading.{parse_magic, parse_version, parse_layout, parse_count}
 use Rattle.bw_file.specs.TableReading.{parse_row_count, bound_in, parse_bounds, parse_nullable}
 use Rattle.bw_file.specs.TableReading.{parse_name, name, column, columns, front_of, front}
-use Rattle.bw_file.specs.TableReading.{HeaderShape, header_of, header}
+use Rattle.bw_file.specs.TableReading.{HeaderShape, header_of, header_in, is_version}
 use Rattle.bw_file.proofs.ReadingLemmas.{field_needs, needs_first, needs_more, needs_none}
 use Rattle.bw_file.proofs.SpellingLemmas.{schema_bytes, fits_version, head_bytes, IsHeader}
 
@@ -99,18 +101,19 @@ read_field_reads size says text x whole said =
     text_there (read_field size says) (λ at. field size >>= λ bytes. parsed_at at (says bytes)) text x (λ at bytes. refl) (λ at. said_reads at size says text x whole said)
 
 -- what the fields of a header say
-magic_read : parse_magic magic ≡ Ok tt
+magic_read : (order : FileOrder) → parse_magic order (magic order) ≡ Ok tt
 unfolding parse_magic magic
-magic_read = refl
+magic_read ByRows = refl
+magic_read ByColumns = refl
 
-length-magic : length magic ≡ 8
+length-magic : (order : FileOrder) → length (magic order) ≡ 8
 unfolding magic
-length-magic = refl
+length-magic ByRows = refl
+length-magic ByColumns = refl
 
-version_read : (version : ℕ) → (version ≡ 1) ⊎ (version ≡ 2) → parse_version (version ∷ []) ≡ Ok version
+version_read : (order : FileOrder) (version : ℕ) → is_version order version ≡ true → parse_version order (version ∷ []) ≡ Ok version
 unfolding parse_version
-version_read version (inl one) = rw one refl
-version_read version (inr two) = rw two refl
+version_read order version is = rw is refl
 
 layout_read : (layout : Layout) → parse_layout (layout_byte layout ∷ []) ≡ Ok layout
 unfolding parse_layout
@@ -216,40 +219,40 @@ columns_read version before (c ∷ more) is room apart =
     (column_reads version (shape_names before) c (All-head IsColumn c more is) fits.0 (apart_before c.name (shape_names before) (shape_names more) apart))
     (columns_read version (before ++ c ∷ []) more (All-tail IsColumn c more is) fits.1 next))
 
-front_reads : (version : ℕ) (layout : Layout) (columns rows : ℕ) → (version ≡ 1) ⊎ (version ≡ 2) → 1 ≤ columns → columns ≤ most_columns → rows ≤ most_rows
-    → ReadsText front (front_bytes version layout columns rows) (front_of version layout columns rows)
+front_reads : (order : FileOrder) (version : ℕ) (layout : Layout) (columns rows : ℕ) → is_version order version ≡ true → 1 ≤ columns → columns ≤ most_columns → rows ≤ most_rows
+    → ReadsText (front order) (front_bytes order version layout columns rows) (front_of version layout columns rows)
 unfolding front front_bytes
-front_reads version layout count rows one_or_two some limited few =
+front_reads order version layout count rows is some limited few =
     let two : List ℕ = version ∷ layout_byte layout ∷ [] in
     let counted = to_le_bytes w16 count in
     let told = to_le_bytes w32 rows in
     let found = front_of version layout count rows in
-    text_as front (magic ++ (two ++ (counted ++ told))) (magic ++ two ++ counted ++ told) found
-    (sym (append_assoc magic two (counted ++ told)) ∙ sym (append_assoc (magic ++ two) counted told))
-    (text_then (read_field 8 parse_magic) _ magic (two ++ (counted ++ told)) tt found (read_field_reads 8 parse_magic magic tt length-magic magic_read)
-    (text_then (read_field 1 parse_version) _ (version ∷ []) (layout_byte layout ∷ (counted ++ told)) version found (read_field_reads 1 parse_version (version ∷ []) version refl (version_read version one_or_two))
+    text_as (front order) (magic order ++ (two ++ (counted ++ told))) (magic order ++ two ++ counted ++ told) found
+    (sym (append_assoc (magic order) two (counted ++ told)) ∙ sym (append_assoc (magic order ++ two) counted told))
+    (text_then (read_field 8 (parse_magic order)) _ (magic order) (two ++ (counted ++ told)) tt found (read_field_reads 8 (parse_magic order) (magic order) tt (length-magic order) (magic_read order))
+    (text_then (read_field 1 (parse_version order)) _ (version ∷ []) (layout_byte layout ∷ (counted ++ told)) version found (read_field_reads 1 (parse_version order) (version ∷ []) version refl (version_read order version is))
     (text_then (read_field 1 parse_layout) _ (layout_byte layout ∷ []) (counted ++ told) layout found (read_field_reads 1 parse_layout (layout_byte layout ∷ []) layout refl (layout_read layout))
     (text_then (read_field 2 parse_count) _ counted told count found (read_field_reads 2 parse_count counted count refl (count_read count some limited))
     (text_gives (read_field 4 parse_row_count) (λ rows. front_of version layout count rows) told rows (read_field_reads 4 parse_row_count told rows refl (rows_read rows few)))))))
 
 -- a header, and what stands in a schema beside its shape
-pub record IsWhole (h : HeaderShape) : Type 0 where
-  pub header : IsHeader h
+pub record IsWhole (order : FileOrder) (h : HeaderShape) : Type 0 where
+  pub header : IsHeader order h
   pub nonempty : 1 ≤ length h.schema.columns
   pub limited : length h.schema.columns ≤ most_columns
   pub apart : are_apart (shape_names h.schema.columns) ≡ true
 
-pub header_reads : (h : HeaderShape) → IsWhole h → ReadsText header (head_bytes h) h
-unfolding header
-header_reads h is =
+pub header_reads : (order : FileOrder) (h : HeaderShape) → IsWhole order h → ReadsText (header_in order) (head_bytes order h) h
+unfolding header_in
+header_reads order h is =
     let columns_of = h.schema.columns in
     let count = length columns_of in
-    let first = front_bytes h.version h.layout count h.rows in
+    let first = front_bytes order h.version h.layout count h.rows in
     let named = name_bytes h.schema.name in
     let found = front_of h.version h.layout count h.rows in
     let texts = flat_map schema_bytes columns_of in
-    text_as header (first ++ (named ++ texts)) (first ++ named ++ texts) h (sym (append_assoc first named texts))
-    (text_then front _ first (named ++ texts) found h (front_reads h.version h.layout count h.rows is.header.version is.nonempty is.limited is.header.within_limit)
+    text_as (header_in order) (first ++ (named ++ texts)) (first ++ named ++ texts) h (sym (append_assoc first named texts))
+    (text_then (front order) _ first (named ++ texts) found h (front_reads order h.version h.layout count h.rows is.header.version is.nonempty is.limited is.header.within_limit)
     (text_then (name []) _ named texts h.schema.name h (name_reads [] h.schema.name is.header.schema.name refl)
     (text_gives (columns h.version [] count) (λ columns. header_of found h.schema.name columns) texts columns_of
     (columns_read h.version [] columns_of is.header.schema.columns is.header.bounds is.apart))))

@@ -20,6 +20,7 @@ use Rattle.bw_model.specs.SchemaText.{ColumnShape, shape, shape_names}
 use Rattle.bw_model.proofs.FaultLemmas.{not_refused}
 use Rattle.bw_file.specs.declared.fields.Bounds.{Bounds}
 use Rattle.bw_file.specs.declared.layout.Layout.{Layout}
+use Rattle.bw_file.specs.declared.order.FileOrder.{FileOrder}
 use Rattle.bw_file.specs.declared.layout.Layout.TheVariants.{Planes, Slices}
 use Rattle.bw_file.specs.FileBytes.{magic, layout_byte, flag_byte, front_bytes, name_bytes}
 use Rattle.bw_file.specs.FileBytes.{bound_bytes, column_bytes, are_bounds}
@@ -28,7 +29,7 @@ use Rattle.bw_file.specs.Reading.{read_field}
 use Rattle.bw_file.specs.TableReading.{parse_magic, parse_version, parse_layout, parse_count}
 use Rattle.bw_file.specs.TableReading.{parse_row_count, bound_in, parse_bounds, parse_nullable}
 use Rattle.bw_file.specs.TableReading.{parse_name, name, column, columns, FrontShape, front_of}
-use Rattle.bw_file.specs.TableReading.{front, HeaderShape, header_of, header}
+use Rattle.bw_file.specs.TableReading.{front, HeaderShape, header_of, header_in, is_version}
 use Rattle.bw_file.proofs.ReadingLemmas.{front_bytes as bytes_in_front}
 
 abbrev pub IsBytes : List ℕ → Type 0
@@ -101,15 +102,16 @@ left : {A : Type 0} (b : Bool) (x y : A) (code : ℕ) → cond b (Err code) (Ok 
 left true x y code e = absurd cc
 left false x y code e = (refl, ok_is x y e)
 
-magic_is : (text : List ℕ) → parse_magic text ≡ said tt → text ≡ magic
+magic_is : (order : FileOrder) (text : List ℕ) → parse_magic order text ≡ said tt → text ≡ magic order
 unfolding parse_magic
-magic_is text e = (bytes_eq-Decides text magic).0 (chosen (bytes_eq text magic) tt tt 301 e).0
+magic_is order text e = (bytes_eq-Decides text (magic order)).0 (chosen (bytes_eq text (magic order)) tt tt 301 e).0
 
-version_is : (text : List ℕ) (version : ℕ) → length text ≡ 1 → parse_version text ≡ Ok version → (text ≡ version ∷ []) × ((version ≡ 1) ⊎ (version ≡ 2))
+version_is : (order : FileOrder) (text : List ℕ) (version : ℕ) → length text ≡ 1 → parse_version order text ≡ Ok version
+    → (text ≡ version ∷ []) × (is_version order version ≡ true)
 unfolding parse_version
-version_is text version long e =
-    let g = chosen (eqb (get_or text 0 0) 1 || eqb (get_or text 0 0) 2) (get_or text 0 0) version 302 e in
-    (single text long ∙ ap (λ (b : ℕ). b ∷ []) g.1, elim (or_cases _ _ g.0) [ inl a ↦ inl (sym g.1 ∙ eqb-true _ _ a) | inr b ↦ inr (sym g.1 ∙ eqb-true _ _ b) ])
+version_is order text version long e =
+    let g = chosen (is_version order (get_or text 0 0)) (get_or text 0 0) version 302 e in
+    (single text long ∙ ap (λ (b : ℕ). b ∷ []) g.1, ap (is_version order) (sym g.1) ∙ g.0)
 
 -- one of two values, by a byte that is 0 or 1
 by_byte : {A : Type 0} (spell : A → ℕ) (a b : A) (code : ℕ) (text : List ℕ) (x : A) → spell a ≡ 0 → spell b ≡ 1 → length text ≡ 1
@@ -251,66 +253,66 @@ columns_take version (suc count) before t x fits e =
     )
 
 -- what is known of a front and of a header
-record IsFront (f : FrontShape) : Type 0 where
-  version : (f.version ≡ 1) ⊎ (f.version ≡ 2)
+record IsFront (order : FileOrder) (f : FrontShape) : Type 0 where
+  version : is_version order f.version ≡ true
   within_limit : f.rows ≤ most_rows
 
-front_takes : (t : Tail) (x : FrontShape × Tail) → IsBytes t.bytes → front t ≡ Ok x
-    → TakesBoth t (front_bytes x.0.version x.0.layout x.0.columns x.0.rows) x.1 × IsFront x.0
+front_takes : (order : FileOrder) (t : Tail) (x : FrontShape × Tail) → IsBytes t.bytes → front order t ≡ Ok x
+    → TakesBoth t (front_bytes order x.0.version x.0.layout x.0.columns x.0.rows) x.1 × IsFront order x.0
 unfolding front front_bytes
-front_takes t x fits e =
-    let a = bind_ok (read_field 8 parse_magic t) (λ _. read_field 1 parse_version >>= λ version. read_field 1 parse_layout >>= λ layout. read_field 2 parse_count >>= λ count. read_field 4 parse_row_count >>= λ rows. give (front_of version layout count rows)) x e in
-    let b = bind_ok (read_field 1 parse_version a.0.1) (λ version. read_field 1 parse_layout >>= λ layout. read_field 2 parse_count >>= λ count. read_field 4 parse_row_count >>= λ rows. give (front_of version layout count rows)) x a.2 in
+front_takes order t x fits e =
+    let a = bind_ok (read_field 8 (parse_magic order) t) (λ _. read_field 1 (parse_version order) >>= λ version. read_field 1 parse_layout >>= λ layout. read_field 2 parse_count >>= λ count. read_field 4 parse_row_count >>= λ rows. give (front_of version layout count rows)) x e in
+    let b = bind_ok (read_field 1 (parse_version order) a.0.1) (λ version. read_field 1 parse_layout >>= λ layout. read_field 2 parse_count >>= λ count. read_field 4 parse_row_count >>= λ rows. give (front_of version layout count rows)) x a.2 in
     let c = bind_ok (read_field 1 parse_layout b.0.1) (λ layout. read_field 2 parse_count >>= λ count. read_field 4 parse_row_count >>= λ rows. give (front_of b.0.0 layout count rows)) x b.2 in
     let d = bind_ok (read_field 2 parse_count c.0.1) (λ count. read_field 4 parse_row_count >>= λ rows. give (front_of b.0.0 c.0.0 count rows)) x c.2 in
     let g = bind_ok (read_field 4 parse_row_count d.0.1) (λ rows. give (front_of b.0.0 c.0.0 d.0.0 rows)) x d.2 in
-    let ja = read_field_takes 8 parse_magic t a.0 fits a.1 in
-    let jb = read_field_takes 1 parse_version a.0.1 b.0 ja.takes.rest b.1 in
+    let ja = read_field_takes 8 (parse_magic order) t a.0 fits a.1 in
+    let jb = read_field_takes 1 (parse_version order) a.0.1 b.0 ja.takes.rest b.1 in
     let jc = read_field_takes 1 parse_layout b.0.1 c.0 jb.takes.rest c.1 in
     let jd = read_field_takes 2 parse_count c.0.1 d.0 jc.takes.rest d.1 in
     let jg = read_field_takes 4 parse_row_count d.0.1 g.0 jd.takes.rest g.1 in
-    let vs = version_is jb.text b.0.0 jb.long jb.said in
+    let vs = version_is order jb.text b.0.0 jb.long jb.said in
     let rs = rows_are jg.text g.0.0 jg.long jg.takes.fits jg.said in
-    let ta = takes_as t a.0.1 ja.text magic ja.takes (magic_is ja.text ja.said) in
+    let ta = takes_as t a.0.1 ja.text (magic order) ja.takes (magic_is order ja.text ja.said) in
     let tb = takes_as a.0.1 b.0.1 jb.text (b.0.0 ∷ []) jb.takes vs.0 in
     let tc = takes_as b.0.1 c.0.1 jc.text (layout_byte c.0.0 ∷ []) jc.takes (layout_is jc.text c.0.0 jc.long jc.said) in
     let td = takes_as c.0.1 d.0.1 jd.text (to_le_bytes w16 d.0.0) jd.takes (count_is jd.text d.0.0 jd.long jd.takes.fits jd.said) in
     let tg = takes_as d.0.1 g.0.1 jg.text (to_le_bytes w32 g.0.0) jg.takes rs.0 in
     let tbc : TakesBoth a.0.1 (b.0.0 ∷ layout_byte c.0.0 ∷ []) c.0.1 = takes_then a.0.1 b.0.1 c.0.1 (b.0.0 ∷ []) (layout_byte c.0.0 ∷ []) tb tc in
-    let tabc = takes_then t a.0.1 c.0.1 magic (b.0.0 ∷ layout_byte c.0.0 ∷ []) ta tbc in
-    let tabcd = takes_then t c.0.1 d.0.1 (magic ++ (b.0.0 ∷ layout_byte c.0.0 ∷ [])) (to_le_bytes w16 d.0.0) tabc td in
-    let whole = takes_then t d.0.1 g.0.1 (magic ++ (b.0.0 ∷ layout_byte c.0.0 ∷ []) ++ to_le_bytes w16 d.0.0) (to_le_bytes w32 g.0.0) tabcd tg in
+    let tabc = takes_then t a.0.1 c.0.1 (magic order) (b.0.0 ∷ layout_byte c.0.0 ∷ []) ta tbc in
+    let tabcd = takes_then t c.0.1 d.0.1 (magic order ++ (b.0.0 ∷ layout_byte c.0.0 ∷ [])) (to_le_bytes w16 d.0.0) tabc td in
+    let whole = takes_then t d.0.1 g.0.1 (magic order ++ (b.0.0 ∷ layout_byte c.0.0 ∷ []) ++ to_le_bytes w16 d.0.0) (to_le_bytes w32 g.0.0) tabcd tg in
     let made : FrontShape × Tail = (front_of b.0.0 c.0.0 d.0.0 g.0.0, g.0.1) in
-    subst (λ (y : FrontShape × Tail). TakesBoth t (front_bytes y.0.version y.0.layout y.0.columns y.0.rows) y.1 × IsFront y.0) (ok_is made x g.2)
+    subst (λ (y : FrontShape × Tail). TakesBoth t (front_bytes order y.0.version y.0.layout y.0.columns y.0.rows) y.1 × IsFront order y.0) (ok_is made x g.2)
     (whole, record { version = vs.1; within_limit = rs.1 })
 
 -- the text of a header's shape
-abbrev pub head_bytes : HeaderShape → List ℕ
-head_bytes h = front_bytes h.version h.layout (length h.schema.columns) h.rows ++ name_bytes h.schema.name ++ flat_map schema_bytes h.schema.columns
+abbrev pub head_bytes : FileOrder → HeaderShape → List ℕ
+head_bytes order h = front_bytes order h.version h.layout (length h.schema.columns) h.rows ++ name_bytes h.schema.name ++ flat_map schema_bytes h.schema.columns
 
-pub record IsHeader (h : HeaderShape) : Type 0 where
-  pub version : (h.version ≡ 1) ⊎ (h.version ≡ 2)
+pub record IsHeader (order : FileOrder) (h : HeaderShape) : Type 0 where
+  pub version : is_version order h.version ≡ true
   pub within_limit : h.rows ≤ most_rows
   pub bounds : list_all (fits_version h.version) h.schema.columns ≡ true
   pub schema : IsSchema h.schema
 
-pub header_takes : (t : Tail) (x : HeaderShape × Tail) → IsBytes t.bytes → header t ≡ Ok x → TakesBoth t (head_bytes x.0) x.1 × IsHeader x.0
-unfolding header
-header_takes t x fits e =
-    let a = bind_ok (front t) (λ first. name [] >>= λ text. columns first.version [] first.columns >>= λ found. give (header_of first text found)) x e in
+pub header_takes : (order : FileOrder) (t : Tail) (x : HeaderShape × Tail) → IsBytes t.bytes → header_in order t ≡ Ok x → TakesBoth t (head_bytes order x.0) x.1 × IsHeader order x.0
+unfolding header_in
+header_takes order t x fits e =
+    let a = bind_ok (front order t) (λ first. name [] >>= λ text. columns first.version [] first.columns >>= λ found. give (header_of first text found)) x e in
     let b = bind_ok (name [] a.0.1) (λ text. columns a.0.0.version [] a.0.0.columns >>= λ found. give (header_of a.0.0 text found)) x a.2 in
     let c = bind_ok (columns a.0.0.version [] a.0.0.columns b.0.1) (λ found. give (header_of a.0.0 b.0.0 found)) x b.2 in
-    let ta = front_takes t a.0 fits a.1 in
+    let ta = front_takes order t a.0 fits a.1 in
     let tb = name_takes [] a.0.1 b.0 ta.0.rest b.1 in
     let tc = columns_take a.0.0.version a.0.0.columns [] b.0.1 c.0 tb.0.rest c.1 in
     let found : c.0.0 ≡ tc.0 = tc.1 in
     let text : TakesBoth b.0.1 (flat_map schema_bytes c.0.0) c.0.1 = rw found tc.3 in
     let count : length c.0.0 ≡ a.0.0.columns = ap length found ∙ tc.2 in
-    let front_part : TakesBoth t (front_bytes a.0.0.version a.0.0.layout (length c.0.0) a.0.0.rows) a.0.1 = rw count ta.0 in
-    let whole = takes_then t b.0.1 c.0.1 (front_bytes a.0.0.version a.0.0.layout (length c.0.0) a.0.0.rows ++ name_bytes b.0.0) (flat_map schema_bytes c.0.0)
-    (takes_then t a.0.1 b.0.1 (front_bytes a.0.0.version a.0.0.layout (length c.0.0) a.0.0.rows) (name_bytes b.0.0) front_part tb.0) text in
+    let front_part : TakesBoth t (front_bytes order a.0.0.version a.0.0.layout (length c.0.0) a.0.0.rows) a.0.1 = rw count ta.0 in
+    let whole = takes_then t b.0.1 c.0.1 (front_bytes order a.0.0.version a.0.0.layout (length c.0.0) a.0.0.rows ++ name_bytes b.0.0) (flat_map schema_bytes c.0.0)
+    (takes_then t a.0.1 b.0.1 (front_bytes order a.0.0.version a.0.0.layout (length c.0.0) a.0.0.rows) (name_bytes b.0.0) front_part tb.0) text in
     let bounds : list_all (fits_version a.0.0.version) c.0.0 ≡ true = rw found tc.4 in
     let schema : IsSchema (header_of a.0.0 b.0.0 c.0.0).schema = record { name = tb.1; columns = subst (All IsColumn) (sym found) tc.5 } in
     let made : HeaderShape × Tail = (header_of a.0.0 b.0.0 c.0.0, c.0.1) in
-    subst (λ (y : HeaderShape × Tail). TakesBoth t (head_bytes y.0) y.1 × IsHeader y.0) (ok_is made x c.2)
+    subst (λ (y : HeaderShape × Tail). TakesBoth t (head_bytes order y.0) y.1 × IsHeader order y.0) (ok_is made x c.2)
     (whole, record { version = ta.1.version; within_limit = ta.1.within_limit; bounds = bounds; schema = schema })

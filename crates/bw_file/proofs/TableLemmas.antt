@@ -56,7 +56,7 @@ bytes_of_all encoder layout schema rows count bytes all same_layout same_name sa
 
 -- a source that never fails answers no failed read, so what is rejected is the first error of its
 -- bytes
-no_read_failed : (failed : Bool) → 0 ≡ 0 + (if failed then 1 else 0) → failed ≡ false
+pub no_read_failed : (failed : Bool) → 0 ≡ 0 + (if failed then 1 else 0) → failed ≡ false
 no_read_failed true e = absurd (omega (arith, e))
 no_read_failed false e = refl
 

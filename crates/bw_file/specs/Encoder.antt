@@ -6,6 +6,7 @@ use Rattle.bw_model.specs.Row.{Value}
 use Rattle.bw_segment.specs.Columns.{KeepRows}
 use Rattle.bw_file.specs.declared.encoder.Encoder.{Encoder}
 use Rattle.bw_file.specs.declared.layout.Layout.{Layout}
+use Rattle.bw_file.specs.declared.order.FileOrder.TheVariants.{ByRows}
 use Rattle.bw_file.specs.FileBytes.{AreRows, header_bytes, segments_bytes, version_for}
 
 -- the table's schema, the layout, and how many rows were added
@@ -21,7 +22,7 @@ rows_in encoder = encoder.rows
 -- these are the bytes of these rows, except that the header still states no rows
 abbrev pub IsBytesOf : Layout → Schema → List ℕ → List (List Value) → Type 0
 IsBytesOf layout schema bytes rows =
-    bytes ≡ header_bytes (version_for schema.columns.items) layout schema.name schema.columns.items
+    bytes ≡ header_bytes ByRows (version_for schema.columns.items) layout schema.name schema.columns.items
     0
     ++ segments_bytes layout schema.columns.items rows
 

@@ -13,11 +13,14 @@ use Rattle.bw_model.specs.Schema.{IsSchema}
 use Rattle.bw_model.specs.SchemaText.{schema_shape}
 use Rattle.bw_file.specs.declared.layout.Layout.{Layout}
 use Rattle.bw_file.specs.declared.layout.Layout.TheVariants.{Planes, Slices}
+use Rattle.bw_file.specs.declared.order.FileOrder.{FileOrder}
+use Rattle.bw_file.specs.declared.order.FileOrder.TheVariants.{ByRows, ByColumns}
 use Rattle.bw_file.specs.Blocks.{segment_bytes}
 
--- the first eight bytes of a table file
-unfoldable pub magic : List ℕ
-magic = codes "BWCOLUMN"
+-- the first eight bytes of a file, by the order of its blocks
+unfoldable pub magic : FileOrder → List ℕ
+magic ByRows = codes "BWCOLUMN"
+magic ByColumns = codes "BWBYCOLS"
 
 -- the byte of a layout
 abbrev pub layout_byte : Layout → ℕ
@@ -30,9 +33,9 @@ flag_byte true = 1
 
 -- Numbers are little-endian. The first sixteen bytes are the magic, a byte for the version, one for
 -- the layout, the number of columns in two bytes and that of rows in four.
-unfoldable pub front_bytes : ℕ → Layout → ℕ → ℕ → List ℕ
-front_bytes version layout columns rows =
-    magic ++ (version ∷ layout_byte layout ∷ []) ++ to_le_bytes w16 columns ++ to_le_bytes w32 rows
+unfoldable pub front_bytes : FileOrder → ℕ → Layout → ℕ → ℕ → List ℕ
+front_bytes order version layout columns rows =
+    magic order ++ (version ∷ layout_byte layout ∷ []) ++ to_le_bytes w16 columns ++ to_le_bytes w32 rows
 
 -- a name, preceded by a byte for its length
 abbrev pub name_bytes : List ℕ → List ℕ
@@ -48,9 +51,9 @@ column_bytes name lo hi nullable =
     name_bytes name ++ (bound_bytes lo ++ bound_bytes hi) ++ flag_byte nullable ∷ []
 
 -- the header of a table of `rows` rows
-unfoldable pub header_bytes : ℕ → Layout → List ℕ → List Column → ℕ → List ℕ
-header_bytes version layout name columns rows =
-    front_bytes version layout (length columns) rows ++ name_bytes name
+unfoldable pub header_bytes : FileOrder → ℕ → Layout → List ℕ → List Column → ℕ → List ℕ
+header_bytes order version layout name columns rows =
+    front_bytes order version layout (length columns) rows ++ name_bytes name
     ++ flat_map (λ column. column_bytes column.name column.lo column.hi column.nullable) columns
 
 -- the segments of the rows, in groups of 512
@@ -60,7 +63,8 @@ segments_bytes layout columns rows = flat_map (segment_bytes layout columns) (gr
 -- a table as a file of a version
 unfoldable pub bytes_of_version : ℕ → Layout → List ℕ → List Column → List (List Value) → List ℕ
 bytes_of_version version layout name columns rows =
-    header_bytes version layout name columns (length rows) ++ segments_bytes layout columns rows
+    header_bytes ByRows version layout name columns (length rows)
+    ++ segments_bytes layout columns rows
 
 -- bounds in order, and less than 2^32 apart in version 1, less than 2^63 in version 2
 abbrev pub bits_of_version : ℕ → ℕ

@@ -1,5 +1,6 @@
 pub mod AnySegment
 pub mod Blocks
+pub mod Columnar
 pub mod Encoder
 pub mod FileBytes
 pub mod Header

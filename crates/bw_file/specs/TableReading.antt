@@ -24,19 +24,25 @@ use Rattle.bw_segment.specs.Packing.{null_size}
 use Rattle.bw_file.specs.declared.fields.Bounds.{Bounds}
 use Rattle.bw_file.specs.declared.layout.Layout.{Layout}
 use Rattle.bw_file.specs.declared.layout.Layout.TheVariants.{Planes, Slices}
+use Rattle.bw_file.specs.declared.order.FileOrder.{FileOrder}
+use Rattle.bw_file.specs.declared.order.FileOrder.TheVariants.{ByRows, ByColumns}
 use Rattle.bw_file.specs.Blocks.{block_size, block_fault, rows_spelled}
 use Rattle.bw_file.specs.FileBytes.{magic, are_bounds}
 use Rattle.bw_file.specs.Reading.{Tail, tail, Reading, ◌>>=◌, give, field, parsed_at, read_field}
 
 -- the magic; any other is 301
-unfoldable pub parse_magic : List ℕ → Result (Unit {0}) ℕ
-parse_magic bytes = if bytes_eq bytes magic then Ok tt else Err MAGIC
+unfoldable pub parse_magic : FileOrder → List ℕ → Result (Unit {0}) ℕ
+parse_magic order bytes = if bytes_eq bytes (magic order) then Ok tt else Err MAGIC
 
--- the version, which is 1 or 2; any other is 302
-unfoldable pub parse_version : List ℕ → Result ℕ ℕ
-parse_version bytes =
+-- the version, which is 1 or 2, and 2 in a file by columns; any other is 302
+abbrev pub is_version : FileOrder → ℕ → Bool
+is_version ByRows version = (version == 1) || (version == 2)
+is_version ByColumns version = version == 2
+
+unfoldable pub parse_version : FileOrder → List ℕ → Result ℕ ℕ
+parse_version order bytes =
     let version = slice_index bytes 0 in
-    if (version == 1) || (version == 2) then Ok version else Err VERSION
+    if is_version order version then Ok version else Err VERSION
 
 -- the layout; an unknown one is 303
 unfoldable pub parse_layout : List ℕ → Result Layout ℕ
@@ -109,10 +115,10 @@ abbrev pub front_of : ℕ → Layout → ℕ → ℕ → FrontShape
 front_of version layout columns rows =
     record { version = version; layout = layout; columns = columns; rows = rows }
 
-unfoldable pub front : Reading FrontShape
-front =
-    read_field 8 parse_magic >>= λ _.
-    read_field 1 parse_version >>= λ version.
+unfoldable pub front : FileOrder → Reading FrontShape
+front order =
+    read_field 8 (parse_magic order) >>= λ _.
+    read_field 1 (parse_version order) >>= λ version.
     read_field 1 parse_layout >>= λ layout.
     read_field 2 parse_count >>= λ count.
     read_field 4 parse_row_count >>= λ rows.
@@ -134,12 +140,16 @@ header_of first text found =
       schema = record { name = text; columns = found };
     }
 
-unfoldable pub header : Reading HeaderShape
-header =
-    front >>= λ first.
+-- the header of a file whose blocks are in this order, and that of a table file
+unfoldable pub header_in : FileOrder → Reading HeaderShape
+header_in order =
+    front order >>= λ first.
     name [] >>= λ text.
     columns first.version [] first.columns >>= λ found.
     give (header_of first text found)
+
+abbrev pub header : Reading HeaderShape
+header = header_in ByRows
 
 -- In the byte at this place of a plane, a bit of row `rows` or a later one is 1. The byte has the
 -- bits of eight rows, that of the first one in its least bit.
@@ -175,6 +185,13 @@ abbrev pub sound_at : ℕ → Layout → List Column → ℕ → ℕ → List �
 sound_at at layout schema rows number block None t = Ok (block, t)
 sound_at at layout schema rows number block (Some code) t =
     Err (at_byte code (at + fault_place layout schema rows number block code))
+
+-- the result of validating a block, by its error, if it has one
+abbrev pub IsValidAt : ℕ → Layout → List Column → ℕ → ℕ → List ℕ → Option ℕ
+    → Result (Unit {0}) Fault → Type 0
+IsValidAt at layout schema rows number block None result = result ≡ Ok tt
+IsValidAt at layout schema rows number block (Some code) result =
+    result ≡ Err (at_byte code (at + fault_place layout schema rows number block code))
 
 -- the block of the column of this number, in a segment of `rows` rows
 unfoldable pub one_block : Layout → List Column → ℕ → ℕ → Reading (List ℕ)

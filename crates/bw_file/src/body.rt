@@ -10,7 +10,7 @@ ghost use Rattle.bw_file.specs.Blocks.{segment_size, IsPlaced, IsSound};
 ghost use Rattle.bw_file.specs.SegmentBytes.{bytes_held, AreNext};
 ghost use Rattle.bw_file.specs.Reading.{Reads, HasByteMore, HasConsumed, state_at};
 ghost use Rattle.bw_file.specs.TableReading.{plane_has_padding, has_padding, padding_from};
-ghost use Rattle.bw_file.specs.TableReading.{fault_place, one_block, blocks, segment};
+ghost use Rattle.bw_file.specs.TableReading.{fault_place, one_block, blocks, segment, IsValidAt};
 
 use crate::layout::Layout;
 use crate::segment_bytes::SegmentBytes;
@@ -136,6 +136,28 @@ fn read_block<S: Source>(
     let size = block_size(layout, placement, col);
     bytes.take(source, offset, start, size)?;
     let block = &bytes.as_slice()[start..start + size];
+    validate_block(layout, placement, col, rows, block, at)
+}
+
+/// Validates the block of a column in a segment of `rows` rows, whose first byte is at this place of
+/// a file. Errors: 308 at the first byte with a bit of a padding row; 307 and 306 at the first byte
+/// of the block.
+pub fn validate_block(
+    layout: Layout,
+    placement: &Placement,
+    col: usize,
+    rows: u32,
+    block: &[u8],
+    at: u64,
+) -> Result<(), Fault>
+    requires column { col < length placement.now.schema.columns.items }
+    requires rows { rows ≤ group_size }
+    requires size { length block.now ≡ block_size layout placement.now.schema.columns.items col }
+    requires small { length block.now ≤ 4160 }
+    requires capacity { at < 2 ^ 63 }
+    ensures valid { IsValidAt at layout placement.now.schema.columns.items rows col block.now
+        (block_fault layout placement.now.schema.columns.items col rows block.now) result }
+{
     match block_fault(layout, placement, col, rows, block) {
         None => Ok(()),
         Some(code) => {

@@ -8,12 +8,15 @@ ghost use Rattle.bw_model.specs.Fault.{no_memory};
 ghost use Rattle.bw_model.specs.Limits.{most_rows};
 ghost use Rattle.bw_model.specs.Row.{Value, values_of};
 ghost use Rattle.bw_file.specs.Blocks.{segment_bytes, IsPlaced};
+ghost use Rattle.bw_file.specs.Columnar.{columnar_bytes};
 ghost use Rattle.bw_file.specs.FileBytes.{are_bounds, AreRows, file_bytes, front_bytes};
 ghost use Rattle.bw_file.specs.FileBytes.{header_bytes, name_bytes, column_bytes, bound_bytes};
 ghost use Rattle.bw_file.specs.FileBytes.{layout_byte, flag_byte, version_for};
 
-use crate::fields::{MAGIC, are_bounds};
+use crate::columnar::by_columns;
+use crate::fields::{are_bounds, magic_bytes};
 use crate::layout::Layout;
+use crate::order::FileOrder;
 use crate::segments::{append, placement_of};
 use bw_lanes::LANES;
 use bw_model::{Column, Fault, Name, Row, RowConsumer, Schema};
@@ -60,7 +63,14 @@ impl Encoder {
     {
         let placement = placement_of(alloc, layout, schema)?;
         let mut bytes = Vec::new(alloc);
-        push_header(&mut bytes, layout, &placement.schema)?;
+        let version = version_of(&placement.schema.columns);
+        push_header(
+            &mut bytes,
+            FileOrder::ByRows,
+            version,
+            layout,
+            &placement.schema,
+        )?;
         let kept = no_rows(alloc, placement.schema.columns.len())?;
         Ok(Encoder {
             alloc,
@@ -141,6 +151,25 @@ impl Encoder {
         Ok(())
     }
 
+    /// Writes the rows and their number, so that the bytes are the table file of the rows that were
+    /// added. Errors: 801 if memory is refused.
+    fn complete(&mut self) -> Result<(), Fault>
+        ensures bytes { OnOk result ((rows : List (List Value)) → Holds self.old rows
+            → self.new.bytes.items
+            ≡ file_bytes (encoder_layout self.old) (encoder_schema self.old) rows) }
+        ensures rows { OnOk result (rows_in self.new ≡ rows_in self.old) }
+        ensures same { (encoder_layout self.new ≡ encoder_layout self.old)
+            × (encoder_schema self.new ≡ encoder_schema self.old) }
+        ensures only_oom { IsOkUnless result no_memory }
+    {
+        if self.filled > 0 {
+            self.flush()?;
+        }
+        let rows = self.rows;
+        set_row_count(&mut self.bytes, rows);
+        Ok(())
+    }
+
     /// Returns the table file of the rows that were added: version 1 if every column fits it, else
     /// version 2. Errors: 801 if memory is refused.
     pub fn finish(mut self) -> Result<Vec<u8>, Fault>
@@ -149,12 +178,25 @@ impl Encoder {
             → bytes.items ≡ file_bytes (encoder_layout self) (encoder_schema self) rows) }
         ensures only_oom { IsOkUnless result no_memory }
     {
-        if self.filled > 0 {
-            self.flush()?;
-        }
-        let rows = self.rows;
-        set_row_count(&mut self.bytes, rows);
+        self.complete()?;
         Ok(self.bytes)
+    }
+
+    /// Returns the file by columns of the rows that were added. Errors: 801 if memory is refused.
+    pub fn finish_by_columns(mut self) -> Result<Vec<u8>, Fault>
+        ensures bytes { IfOk result
+            (λ bytes. (rows : List (List Value)) → Holds self rows
+            → bytes.items ≡ columnar_bytes (encoder_layout self) (encoder_schema self) rows) }
+        ensures only_oom { IsOkUnless result no_memory }
+    {
+        self.complete()?;
+        by_columns(
+            self.alloc,
+            self.layout,
+            &self.placement,
+            self.rows,
+            &self.bytes,
+        )
     }
 }
 
@@ -173,7 +215,7 @@ impl RowConsumer for Encoder {
 }
 
 /// Writes the number of rows into a header.
-fn set_row_count(bytes: &mut Vec<u8>, rows: u32)
+pub(crate) fn set_row_count(bytes: &mut Vec<u8>, rows: u32)
     requires { 16 ≤ length bytes.old.items }
     ensures { bytes.new.items
         ≡ take 12 bytes.old.items ++ to_le_bytes w32 rows ++ drop 16 bytes.old.items }
@@ -182,18 +224,18 @@ fn set_row_count(bytes: &mut Vec<u8>, rows: u32)
 }
 
 /// Adds the header of an empty table.
-fn push_header(bytes: &mut Vec<u8>, layout: Layout, schema: &Schema) -> Result<(), Fault>
+pub(crate) fn push_header(
+    bytes: &mut Vec<u8>,
+    order: FileOrder,
+    version: u8,
+    layout: Layout,
+    schema: &Schema,
+) -> Result<(), Fault>
     ensures header { OnOk result (bytes.new.items ≡ bytes.old.items
-        ++ header_bytes (version_for schema.now.columns.items) layout
-        schema.now.name schema.now.columns.items 0) }
+        ++ header_bytes order version layout schema.now.name schema.now.columns.items 0) }
     ensures only_oom { IsOkUnless result no_memory }
 {
-    push_front(
-        bytes,
-        version_of(&schema.columns),
-        layout,
-        schema.columns.len() as u16,
-    )?;
+    push_front(bytes, order, version, layout, schema.columns.len() as u16)?;
     push_name(bytes, &schema.name)?;
     push_columns(bytes, &schema.columns)
 }
@@ -215,13 +257,19 @@ fn are_narrow(columns: &[Column]) -> bool
 }
 
 /// Adds the first sixteen bytes of an empty table.
-#[tactic(auto, unfolding(crate::specs::FileBytes::front_bytes, crate::specs::FileBytes::magic))]
-fn push_front(bytes: &mut Vec<u8>, version: u8, layout: Layout, columns: u16) -> Result<(), Fault>
+#[tactic(auto, unfolding(crate::specs::FileBytes::front_bytes))]
+fn push_front(
+    bytes: &mut Vec<u8>,
+    order: FileOrder,
+    version: u8,
+    layout: Layout,
+    columns: u16,
+) -> Result<(), Fault>
     ensures front { OnOk result (bytes.new.items ≡ bytes.old.items
-        ++ front_bytes version layout columns 0) }
+        ++ front_bytes order version layout columns 0) }
     ensures only_oom { IsOkUnless result no_memory }
 {
-    bytes.extend_from_slice(MAGIC)?;
+    bytes.extend_from_slice(magic_bytes(order))?;
     bytes.push(version)?;
     bytes.push(byte_of(layout))?;
     let mut number = [0; 2];

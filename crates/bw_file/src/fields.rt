@@ -2,17 +2,26 @@
 ghost use Rattle.std.specs.Prelude.{◌≡◌, ◌≤◌, ◌^◌, ◌≤ℤ◌, ◌<ℤ◌, ◌-ℤ◌, pos, length, ℕ, List};
 ghost use Rattle.std.specs.Prelude.{Result, IfOk, IsTrue};
 ghost use Rattle.bw_model.specs.Limits.{most_rows};
-ghost use Rattle.bw_file.specs.FileBytes.{are_bounds};
+ghost use Rattle.bw_file.specs.FileBytes.{are_bounds, magic};
 ghost use Rattle.bw_file.specs.Reading.{at_offset};
-ghost use Rattle.bw_file.specs.TableReading.{bound_in, parse_magic, parse_version, parse_layout};
+ghost use Rattle.bw_file.specs.TableReading.{bound_in, is_version, parse_magic, parse_version, parse_layout};
 ghost use Rattle.bw_file.specs.TableReading.{parse_count, parse_row_count, parse_bounds};
 ghost use Rattle.bw_file.specs.TableReading.{parse_nullable, parse_name};
 
 use crate::layout::Layout;
+use crate::order::FileOrder;
 use bw_model::{Column, Fault, MAX_ROWS, code, is_name};
 
-/// The bytes that a table file begins with.
-pub(crate) const MAGIC: &[u8; 8] = b"BWCOLUMN";
+/// Returns the bytes that a file begins with, by the order of its blocks.
+#[tactic(auto, unfolding(crate::specs::FileBytes::magic))]
+pub(crate) fn magic_bytes(order: FileOrder) -> &'static [u8; 8]
+    ensures { result.now ≡ magic order }
+{
+    match order {
+        FileOrder::ByRows => b"BWCOLUMN",
+        FileOrder::ByColumns => b"BWBYCOLS",
+    }
+}
 
 /// Returns the value of a field, or its error at this byte.
 pub(crate) fn at_offset<T>(at: u64, said: Result<T, u16>) -> Result<T, Fault>
@@ -40,18 +49,18 @@ pub(crate) trait Field<const N: usize> {
         ensures valid { IfOk result valid };
 }
 
-/// The magic. Errors: 301.
+/// The magic of a file in this order. Errors: 301.
 #[derive(Clone, Copy)]
-pub(crate) struct Magic;
+pub(crate) struct Magic(pub(crate) FileOrder);
 
 impl Field<8> for Magic {
     type Contents = ();
 
-    ghost value_of = { λ _. parse_magic };
+    ghost value_of = { λ field. parse_magic field.0 };
 
-    #[tactic(auto, unfolding(crate::specs::TableReading::parse_magic, crate::specs::FileBytes::magic))]
+    #[tactic(auto, unfolding(crate::specs::TableReading::parse_magic))]
     fn parse(&self, bytes: &[u8; 8]) -> Result<(), u16> {
-        if bytes == MAGIC {
+        if bytes == magic_bytes(self.0) {
             Ok(())
         } else {
             Err(code::MAGIC)
@@ -59,23 +68,33 @@ impl Field<8> for Magic {
     }
 }
 
-/// The version, 1 or 2. Errors: 302.
+/// The version: 1 or 2, and 2 in a file by columns. Errors: 302.
 #[derive(Clone, Copy)]
-pub(crate) struct Version;
+pub(crate) struct Version(pub(crate) FileOrder);
 
 impl Field<1> for Version {
     type Contents = u8;
 
-    ghost value_of = { λ _. parse_version };
+    ghost value_of = { λ field. parse_version field.0 };
 
     #[tactic(auto, unfolding(crate::specs::TableReading::parse_version))]
     fn parse(&self, bytes: &[u8; 1]) -> Result<u8, u16> {
         let version = bytes[0];
-        if version == 1 || version == 2 {
+        if is_version(self.0, version) {
             Ok(version)
         } else {
             Err(code::VERSION)
         }
+    }
+}
+
+/// Returns whether files in this order may have this version.
+fn is_version(order: FileOrder, version: u8) -> bool
+    ensures { result ≡ is_version order version }
+{
+    match order {
+        FileOrder::ByRows => version == 1 || version == 2,
+        FileOrder::ByColumns => version == 2,
     }
 }
 

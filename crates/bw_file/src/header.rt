@@ -1,7 +1,10 @@
 //! A table file's header, read field by field from a source.
 ghost use Rattle.std.specs.Prelude.{◌≡◌, ◌+◌, ◌-◌, ◌*◌, ◌^◌, ◌<◌, ◌≤◌, [], map, length, false};
-ghost use Rattle.std.specs.Prelude.{true, Ok, Err, if◌then◌else◌, OnOk, IfOk, IsTrue};
+ghost use Rattle.std.specs.Prelude.{true, Ok, Err, if◌then◌else◌, OnOk, IfErr, IfOk, IsTrue, drop, ℕ, List};
+ghost use Rattle.std.specs.Prelude.{◌++◌};
 ghost use Rattle.std.specs.List.{list_any};
+ghost use Rattle.bw_io.specs.Source.{is_read_fault};
+ghost use Rattle.bw_model.specs.Fault.{is_memory};
 ghost use Rattle.bw_model.specs.FaultTable.{HEADER};
 ghost use Rattle.bw_model.specs.Column.{names_of};
 ghost use Rattle.bw_model.specs.Limits.{most_rows};
@@ -9,14 +12,16 @@ ghost use Rattle.bw_model.specs.Name.{is_name, are_apart};
 ghost use Rattle.bw_model.specs.SchemaText.{column_shape};
 ghost use Rattle.bw_text.specs.Text.{same_text};
 ghost use Rattle.bw_file.specs.Header.{header_shape};
-ghost use Rattle.bw_file.specs.Reading.{Reads, state_at, read_field};
+ghost use Rattle.bw_file.specs.Reading.{Reads, state_at, read_field, tail};
 ghost use Rattle.bw_file.specs.TableReading.{parse_name, name, column, columns, front_of, front};
-ghost use Rattle.bw_file.specs.TableReading.{header};
+ghost use Rattle.bw_file.specs.TableReading.{header_in, IsTableFault};
 
 use crate::fields::{
     ColumnBounds, ColumnCount, Field, LayoutByte, Magic, Nullable, RowCount, Version, at_offset,
 };
 use crate::layout::Layout;
+use crate::memory::Memory;
+use crate::order::FileOrder;
 use crate::take::take;
 use bw_io::Source;
 use bw_model::{Column, Fault, Name, Schema, code, has_name, is_name};
@@ -147,18 +152,18 @@ struct Front {
     rows: u32,
 }
 
-fn read_front<S: Source>(source: &mut S, offset: &mut u64) -> Result<Front, Fault>
+fn read_front<S: Source>(order: FileOrder, source: &mut S, offset: &mut u64) -> Result<Front, Fault>
     requires counter_fits { (S.state source.old).failures < 2 ^ 64 - 1 }
     requires capacity { offset.old < 2 ^ 32 }
     ensures reads { Reads (λ found. front_of found.version found.layout found.columns found.rows)
-        front (state_at (S.state source.old) offset.old)
+        (front order) (state_at (S.state source.old) offset.old)
         (state_at (S.state source.new) offset.new) result }
     ensures advanced { OnOk result (offset.new ≡ offset.old + 16) }
     ensures bounds { IfOk result (λ found. (1 ≤ found.columns) × (found.columns ≤ 64)) }
     ensures within_limit { IfOk result (λ found. found.rows ≤ most_rows) }
 {
-    read_field(&Magic, source, offset)?;
-    let version = read_field(&Version, source, offset)?;
+    read_field(&Magic(order), source, offset)?;
+    let version = read_field(&Version(order), source, offset)?;
     let layout = read_field(&LayoutByte, source, offset)?;
     let columns = read_field(&ColumnCount, source, offset)?;
     let rows = read_field(&RowCount, source, offset)?;
@@ -172,29 +177,62 @@ fn read_front<S: Source>(source: &mut S, offset: &mut u64) -> Result<Front, Faul
 
 /// The fields of a header.
 #[derive(Drop)]
-pub(crate) struct Header {
-    pub(crate) version: u8,
-    pub(crate) layout: Layout,
-    pub(crate) rows: u32,
-    pub(crate) schema: Schema,
+pub struct Header {
+    pub version: u8,
+    pub layout: Layout,
+    pub rows: u32,
+    pub schema: Schema,
 }
 
-/// Reads the header of a table file from its first byte. Errors, each at the first byte of its
+/// A header, and how many bytes it has.
+#[derive(Drop)]
+pub struct ParsedHeader {
+    pub header: Header,
+    pub size: u64,
+}
+
+/// Reads the header that bytes begin with, that of a file in this order, whatever follows them. No
+/// header has over 20,000 bytes. Errors, each at the first byte of its field: 301 to 304 and 310; 305 at the end of the
+/// bytes; 801 if memory is refused.
+pub fn parse_header(alloc: Global, order: FileOrder, bytes: &[u8]) -> Result<ParsedHeader, Fault>
+    ensures parsed { IfOk result (λ found. (rest : List ℕ)
+        → header_in order (tail 0 (bytes.now ++ rest)) ≡ Ok (
+          header_shape found.header,
+          tail found.size (drop found.size (bytes.now ++ rest)),
+        )) }
+    ensures within_limit { IfOk result (λ found. found.header.rows ≤ most_rows) }
+    ensures short { IfOk result (λ found. found.size ≤ 20000) }
+    ensures refused { IfErr result (λ fault. is_memory fault ≡ false
+        → header_in order (tail 0 bytes.now) ≡ Err fault) }
+    ensures fault { IfErr result IsTableFault }
+    ensures unread { IfErr result (λ fault. is_read_fault fault ≡ false) }
+{
+    let mut source = Memory::new(bytes);
+    let mut offset = 0;
+    let header = read_header(alloc, order, &mut source, &mut offset)?;
+    Ok(ParsedHeader {
+        header,
+        size: offset,
+    })
+}
+
+/// Reads the header of a file in this order from its first byte. Errors, each at the first byte of its
 /// field: 301 to 304 and 310. 305 is at the end of the file; 701 if a read fails, 801 if memory is
 /// refused.
 pub(crate) fn read_header<S: Source>(
     alloc: Global,
+    order: FileOrder,
     source: &mut S,
     offset: &mut u64,
 ) -> Result<Header, Fault>
     requires counter_fits { (S.state source.old).failures < 2 ^ 64 - 1 }
     requires capacity { offset.old < 2 ^ 31 }
-    ensures reads { Reads header_shape header (state_at (S.state source.old) offset.old)
+    ensures reads { Reads header_shape (header_in order) (state_at (S.state source.old) offset.old)
         (state_at (S.state source.new) offset.new) result }
     ensures advanced { OnOk result (offset.new ≤ offset.old + 20000) }
     ensures within_limit { IfOk result (λ found. found.rows ≤ most_rows) }
 {
-    let front = read_front(source, offset)?;
+    let front = read_front(order, source, offset)?;
     let name = read_name(alloc, &[], source, offset)?;
     let columns = read_columns(alloc, front.version, front.columns, source, offset)?;
     Ok(Header {

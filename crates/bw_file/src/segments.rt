@@ -165,7 +165,7 @@ pub(crate) fn append(
 
 /// Returns how many bytes a column's block has.
 #[tactic(auto, unfolding(crate::specs::Blocks::form_of))]
-pub(crate) fn block_size(layout: Layout, placement: &Placement, col: usize) -> usize
+pub fn block_size(layout: Layout, placement: &Placement, col: usize) -> usize
     requires { col < length placement.now.schema.columns.items }
     ensures size { result ≡ block_size layout placement.now.schema.columns.items col }
     ensures bound { result ≤ 4160 }
@@ -175,7 +175,7 @@ pub(crate) fn block_size(layout: Layout, placement: &Placement, col: usize) -> u
 
 /// Returns how many bytes a segment has.
 #[tactic(auto, unfolding(crate::specs::Blocks::form_of))]
-pub(crate) fn segment_size(layout: Layout, placement: &Placement) -> usize
+pub fn segment_size(layout: Layout, placement: &Placement) -> usize
     requires { IsPlaced layout placement.now }
     ensures size { result ≡ segment_size layout placement.now.schema.columns.items }
     ensures small { result ≤ 266240 }

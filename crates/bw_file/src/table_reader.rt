@@ -9,6 +9,7 @@ ghost use Rattle.bw_file.specs.declared.phase.Phase.TheVariants.{Reading, Failed
 use crate::body::{read_end, read_segment};
 use crate::header::{Header, read_header};
 use crate::layout::Layout;
+use crate::order::FileOrder;
 use crate::phase::Phase;
 use crate::segments::{AnySegment, placement_of, segment_size};
 use bw_io::Source;
@@ -75,7 +76,7 @@ impl TableReader {
             layout,
             rows,
             schema,
-        } = read_header(alloc, source, &mut offset)?;
+        } = read_header(alloc, FileOrder::ByRows, source, &mut offset)?;
         let placement = Rc::new(alloc, placement_of(alloc, layout, &schema)?)?;
         Ok(TableReader {
             alloc,

@@ -1,3 +1,5 @@
+pub mod BytesAt
+pub mod RandomAccess
 pub mod Failure
 pub mod FromRead
 pub mod Input

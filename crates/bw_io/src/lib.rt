@@ -8,6 +8,9 @@
 //! [`ReadAhead`] is a source that reads in large pieces and shares what it has buffered of them.
 //! [`read_limited`] reads a source completely, up to a limit, and [`write_whole`] writes a text.
 //!
+//! A [`RandomAccess`] yields its bytes from any place on. Its clauses tell whether it was found
+//! unchanged since the last read. [`BytesAt`] is one in memory.
+//!
 //! Read `source.rt` and `specs/Source.antt`, which defines what a source yielded, and
 //! `specs/Sink.antt` for what was written.
 #![tactic(auto)]
@@ -16,6 +19,7 @@ mod failed;
 mod from_read;
 mod input;
 mod output;
+mod random_access;
 mod read_ahead;
 mod shared;
 mod sink;
@@ -26,6 +30,7 @@ pub use failed::Failed;
 pub use from_read::FromRead;
 pub use input::{Input, read_limited};
 pub use output::write_whole;
+pub use random_access::{BytesAt, RandomAccess};
 pub use read_ahead::ReadAhead;
 pub use shared::SharedBytes;
 pub use sink::Sink;

@@ -5,6 +5,7 @@ pub mod DumpSizes
 pub mod InMemoryLemmas
 pub mod InferredTextLemmas
 pub mod LoadThenQueryLemmas
+pub mod NamedColumnsLemmas
 pub mod KeptPlanLemmas
 pub mod OneAnswerLemmas
 pub mod OneFileLemmas

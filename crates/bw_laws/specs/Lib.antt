@@ -1,4 +1,5 @@
 pub mod AsDirect
 pub mod Backup
 pub mod LoadThenQuery
+pub mod NamedColumns
 pub mod OneAnswer

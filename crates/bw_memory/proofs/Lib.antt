@@ -1,2 +1,6 @@
+pub mod ColumnarLemmas
+pub mod FillingLemmas
 pub mod StoredSegmentLemmas
+pub mod OpenLemmas
+pub mod ReadColumnLemmas
 pub mod ReadLemmas

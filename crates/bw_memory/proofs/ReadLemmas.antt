@@ -38,7 +38,8 @@ unfolding group_size
 none_given rows stated none = omega (arith, none)
 
 module _ (first reader next : TableReader) (segment : AnySegment) (count : ℕ) (old new : List ColumnBlocks) (same : SameTable first reader) (is : IsSegmentOf reader segment)
-    (kept : StoresSegments (layout_in first) (schema_in first).columns.items (rows_given reader) count old) (given : rows_given reader ≡ min (rows_stated first) (group_size * count))
+    (kept : StoresSegments (layout_in first) (schema_in first).columns.items (rows_given reader) count old)
+    (stored : StoresBlocks (form_of (layout_in first)) (schema_in first).columns.items count old) (given : rows_given reader ≡ min (rows_stated first) (group_size * count))
     (added : (bytes : List ℕ) × AreBytesOf segment bytes × AddsSegment (any_layout segment) (any_meaning segment).columns bytes old new)
     (counted : rows_given next ≡ rows_given reader + length (any_meaning segment).rows) where
   abbrev more : ℕ
@@ -67,10 +68,13 @@ module _ (first reader next : TableReader) (segment : AnySegment) (count : ℕ) 
   rows_are : rows_spelled (layout_in first) (schema_in first).columns.items more added.0 ≡ (any_meaning segment).rows
   rows_are = sym (ap₂ (λ (layout : Layout) (columns : List Column). rows_spelled layout columns more added.0) layout_is columns_are) ∙ added.1.rows
 
+  pub stored_next : StoresBlocks (form_of (layout_in first)) (schema_in first).columns.items (count + 1) new
+  stored_next = add.keep count stored
+
   pub kept_next : StoresSegments (layout_in first) (schema_in first).columns.items (rows_given next) (count + 1) new
   kept_next =
       subst (λ (rows : ℕ). StoresSegments (layout_in first) (schema_in first).columns.items rows (count + 1) new) (sym counted)
-      (segment_added (layout_in first) (schema_in first).columns.items (rows_given reader) count more old new added.0 kept full (any_is_group segment).nonempty (any_is_group segment).within_limit sound add)
+      (segment_added (layout_in first) (schema_in first).columns.items (rows_given reader) count more old new added.0 kept stored full (any_is_group segment).nonempty (any_is_group segment).within_limit sound add)
 
   pub given_next : rows_given next ≡ min (rows_stated first) (group_size * (count + 1))
   unfolding group_size
@@ -80,7 +84,7 @@ module _ (first reader next : TableReader) (segment : AnySegment) (count : ℕ) 
       ≡ stored_groups (layout_in first) (schema_in first).columns.items (rows_given reader) count old ++ (any_meaning segment).rows ∷ []
   groups_next =
       ap (λ (rows : ℕ). stored_groups (layout_in first) (schema_in first).columns.items rows (count + 1) new) counted
-      ∙ groups_added (layout_in first) (schema_in first).columns.items (rows_given reader) count more old new added.0 kept full (any_is_group segment).nonempty (any_is_group segment).within_limit sound add
+      ∙ groups_added (layout_in first) (schema_in first).columns.items (rows_given reader) count more old new added.0 kept stored full (any_is_group segment).nonempty (any_is_group segment).within_limit sound add
       ∙ ap (λ (rows : List (List Value)). stored_groups (layout_in first) (schema_in first).columns.items (rows_given reader) count old ++ rows ∷ []) rows_are
 
 -- all segments, once the end was seen, which counted no row

@@ -12,6 +12,7 @@ use Rattle.bw_model.specs.Groups.{group_size, together}
 use Rattle.bw_model.specs.Row.{Value}
 use Rattle.bw_segment.specs.declared.column_blocks.ColumnBlocks.{ColumnBlocks}
 use Rattle.bw_segment.specs.ColumnBlocks.{StoresBlocks, segment_numbered}
+use Rattle.bw_segment.proofs.ColumnBlockLemmas.{stored_has}
 use Rattle.bw_segment.proofs.SoundLemmas.{length-rows_spelled}
 use Rattle.bw_file.specs.declared.layout.Layout.{Layout}
 use Rattle.bw_file.specs.declared.segments.AnySegment.{AnySegment}
@@ -55,10 +56,10 @@ rows_cut rows number most is = omega (arith, is)
 
 -- nothing is kept
 pub none_kept : (layout : Layout) (columns : List Column) (kept : List ColumnBlocks) → StoresBlocks (form_of layout) columns 0 kept → StoresSegments layout columns 0 0 kept
-none_kept layout columns kept blocks = record { blocks = blocks; all = omega arith; nonempty = λ number lt. absurd (omega arith); sound = λ number lt. absurd (omega arith) }
+none_kept layout columns kept blocks = record { blocks = stored_has (form_of layout) columns 0 kept blocks; all = omega arith; nonempty = λ number lt. absurd (omega arith); sound = λ number lt. absurd (omega arith) }
 
 -- one segment more, after full ones
-module _ (layout : Layout) (columns : List Column) (rows count more : ℕ) (old new : List ColumnBlocks) (bytes : List ℕ) (keep : StoresSegments layout columns rows count old)
+module _ (layout : Layout) (columns : List Column) (rows count more : ℕ) (old new : List ColumnBlocks) (bytes : List ℕ) (keep : StoresSegments layout columns rows count old) (stored : StoresBlocks (form_of layout) columns count old)
     (full : rows ≡ group_size * count) (some : 1 ≤ more) (few : more ≤ group_size) (sound : IsSound layout columns more bytes) (add : AddsSegment layout columns bytes old new) where
   same_rows : (number : ℕ) → number < count → rows_numbered (rows + more) number ≡ rows_numbered rows number
   unfolding group_size
@@ -71,26 +72,26 @@ module _ (layout : Layout) (columns : List Column) (rows count more : ℕ) (old 
   pub segment_added : StoresSegments layout columns (rows + more) (count + 1) new
   unfolding group_size
   segment_added = record {
-    blocks = add.keep count keep.blocks;
+    blocks = stored_has (form_of layout) columns (count + 1) new (add.keep count stored);
     all = omega (arith, full, few);
     nonempty = λ number lt. omega (arith, full, some);
     sound = λ number lt. elim (cases_lt number count) [
       | inl before ↦
-          let same = add.others count number keep.blocks before in
+          let same = add.others count number stored before in
           subst (λ (n : ℕ). IsSound layout columns n (segment_numbered new number)) (sym (same_rows number before)) (subst (λ (l : List ℕ). IsSound layout columns (rows_numbered rows number) l) (sym same) (keep.sound number before))
       | inr not_before ↦
           let here : number ≡ count = omega arith in
           subst (λ (k : ℕ). IsSound layout columns (rows_numbered (rows + more) k) (segment_numbered new k)) (sym here)
-          (subst (λ (n : ℕ). IsSound layout columns n (segment_numbered new count)) (sym rows_last) (subst (λ (l : List ℕ). IsSound layout columns more l) (sym (add.last count keep.blocks)) sound))
+          (subst (λ (n : ℕ). IsSound layout columns n (segment_numbered new count)) (sym rows_last) (subst (λ (l : List ℕ). IsSound layout columns more l) (sym (add.last count stored)) sound))
     ];
   }
 
   group_before : (number : ℕ) → number < count → stored_group layout columns (rows + more) new number ≡ stored_group layout columns rows old number
   group_before number there =
-      ap₂ (rows_spelled layout columns) (same_rows number there) (add.others count number keep.blocks there)
+      ap₂ (rows_spelled layout columns) (same_rows number there) (add.others count number stored there)
 
   group_last : stored_group layout columns (rows + more) new count ≡ rows_spelled layout columns more bytes
-  group_last = ap₂ (rows_spelled layout columns) rows_last (add.last count keep.blocks)
+  group_last = ap₂ (rows_spelled layout columns) rows_last (add.last count stored)
 
   same_before : (first most : ℕ) → first + most ≤ count
       → map (stored_group layout columns (rows + more) new) (range_with_len first most) ≡ map (stored_group layout columns rows old) (range_with_len first most)

@@ -1,11 +1,11 @@
 -- The segments of a table, stored column by column.
-use Rattle.std.specs.Prelude.{◌≡◌, ℕ, ◌-◌, ◌*◌, ◌+◌, ◌<◌, ◌≤◌, min, List, length, map}
+use Rattle.std.specs.Prelude.{◌≡◌, ℕ, ◌-◌, ◌*◌, ◌+◌, ◌<◌, ◌≤◌, min, List, length, map, take, drop}
 use Rattle.std.specs.List.{range_with_len}
 use Rattle.bw_model.specs.declared.column.Column.{Column}
 use Rattle.bw_model.specs.Groups.{group_size}
 use Rattle.bw_model.specs.Row.{Value}
 use Rattle.bw_segment.specs.declared.column_blocks.ColumnBlocks.{ColumnBlocks}
-use Rattle.bw_segment.specs.ColumnBlocks.{StoresBlocks, segment_numbered}
+use Rattle.bw_segment.specs.ColumnBlocks.{HasBlocks, StoresBlocks, segment_numbered}
 use Rattle.bw_file.specs.declared.layout.Layout.{Layout}
 use Rattle.bw_file.specs.declared.segments.AnySegment.{AnySegment}
 use Rattle.bw_file.specs.AnySegment.{any_layout, any_meaning}
@@ -19,11 +19,15 @@ rows_numbered rows number = min group_size (rows - group_size * number)
 -- valid.
 pub record StoresSegments (layout : Layout) (columns : List Column) (rows count : ℕ)
     (kept : List ColumnBlocks) : Type 0 where
-  pub blocks : StoresBlocks (form_of layout) columns count kept
+  pub blocks : HasBlocks (form_of layout) columns count kept
   pub all : rows ≤ group_size * count
   pub nonempty : (number : ℕ) → number < count → group_size * number < rows
   pub sound : (number : ℕ) → number < count
       → IsSound layout columns (rows_numbered rows number) (segment_numbered kept number)
+
+-- the block of a number among blocks of `size` bytes that are back to back
+abbrev pub piece_of : List ℕ → ℕ → ℕ → List ℕ
+piece_of blocks size number = take size (drop (number * size) blocks)
 
 -- the rows of the segment of a number, and those of each segment
 abbrev pub stored_group : Layout → List Column → ℕ → List ColumnBlocks → ℕ → List (List Value)

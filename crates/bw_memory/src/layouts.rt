@@ -1,14 +1,14 @@
 //! The parts of a table that depend on its layout.
 ghost use Rattle.std.specs.Prelude.{◌≡◌, ℕ, List, length, IfOk, OnOk, IsOkUnless};
 ghost use Rattle.bw_model.specs.Fault.{no_memory};
-ghost use Rattle.bw_segment.specs.ColumnBlocks.{StoresBlocks};
+ghost use Rattle.bw_segment.specs.ColumnBlocks.{AreBlank, StoresBlocks};
 ghost use Rattle.bw_file.specs.AnySegment.{any_layout, any_meaning};
 ghost use Rattle.bw_file.specs.Blocks.{IsPlaced, form_of};
 ghost use Rattle.bw_memory.specs.StoredSegments.{AddsSegment, AreBytesOf};
 
 use bw_file::{AnySegment, Layout, in_layout, placement_of, with_segment};
 use bw_model::{Fault, Schema};
-use bw_segment::{ColumnBlocks, Placement, no_blocks, push_blocks};
+use bw_segment::{ColumnBlocks, Placement, blank_columns, no_blocks, push_blocks};
 use std::alloc::Global;
 use std::rc::Rc;
 
@@ -40,6 +40,20 @@ pub(crate) fn no_columns(
     ensures only_oom { IsOkUnless result no_memory }
 {
     in_layout!(layout, no_blocks::<_>(alloc, placement))
+}
+
+/// Returns the columns of a table in a layout, in which each row has the minimum of each column.
+#[tactic(auto, unfolding(bw_file::specs::Blocks::form_of))]
+pub(crate) fn unread_columns(
+    alloc: Global,
+    layout: Layout,
+    placement: &Placement,
+) -> Result<Vec<ColumnBlocks>, Fault>
+    ensures blank { IfOk result (λ columns.
+        AreBlank (form_of layout) placement.now.schema.columns.items columns.items) }
+    ensures only_oom { IsOkUnless result no_memory }
+{
+    in_layout!(layout, blank_columns::<_>(alloc, placement))
 }
 
 /// Adds the blocks of a segment, each to its column.

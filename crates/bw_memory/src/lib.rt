@@ -8,7 +8,12 @@
 //! The table is stored column by column: all blocks of a column are back to back, so a scan of one
 //! column reads no other. It takes a little more memory than the file has bytes.
 //!
-//! Read `specs/MemoryTable.antt` first, then `table.rt` and `reading.rt`.
+//! A [`ColumnarTable`] is a table of a file by columns: [`ColumnarTable::open`] reads the header, and
+//! [`ColumnarTable::read_column`] one column. A column that wasn't read takes the memory of one
+//! block, which each segment has, and has its minimum in each row.
+//!
+//! Read `specs/MemoryTable.antt` first, then `table.rt` and `reading.rt`; for files by columns
+//! `specs/Columnar.antt`, then `opening.rt` and `columns.rt`.
 //!
 //! ```
 //! let table = MemoryTable::read(rt.alloc(), &mut source)?;
@@ -18,8 +23,13 @@
 //! ```
 #![tactic(auto)]
 
+mod columnar;
+mod columns;
+mod filling;
 mod layouts;
+mod opening;
 mod reading;
 mod table;
 
+pub use columnar::ColumnarTable;
 pub use table::MemoryTable;

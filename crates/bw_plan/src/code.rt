@@ -52,7 +52,7 @@ impl<'a> Code<'a> {
     pub(crate) fn set(&mut self, to: Register, instr: Instr) -> Made {
         self.meet();
         self.put(instr)?;
-        self.registers.hold(to, None);
+        self.registers.occupy(to, None);
         Ok(to)
     }
 
@@ -86,7 +86,7 @@ impl<'a> Code<'a> {
         if matches!(content, Content::Values(_)) {
             self.put(Instr::Not(register, register))?;
         }
-        self.registers.hold(register, Some(content));
+        self.registers.occupy(register, Some(content));
         Ok(register)
     }
 }

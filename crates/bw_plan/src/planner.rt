@@ -1,9 +1,10 @@
 //! Proposals: a program, and a certificate for it.
-ghost use Rattle.std.specs.Prelude.{IsTrue, IfOk, IfErr, length};
+ghost use Rattle.std.specs.Prelude.{IsTrue, IfOk, IfErr, IfNone, length};
 ghost use Rattle.bw_model.specs.Cond.{names_within};
 ghost use Rattle.bw_program.specs.Program.{fits};
 ghost use Rattle.bw_cert_text.specs.CertificateFields.{certificate_fields};
 ghost use Rattle.bw_cert_text.specs.Columns.{has_columns};
+ghost use Rattle.bw_prover.specs.Rules.{has_rules};
 ghost use Rattle.bw_plan.specs.Refusal.{IsRefusal};
 
 use crate::code::Code;
@@ -37,6 +38,7 @@ pub fn propose<'a>(alloc: Global, schema: &'a Schema, cond: &Cond) -> Result<Pro
         IsTrue (fits schema.now.columns.items proposal.program)) }
     ensures certificate { IfOk result (λ proposal.
         IsTrue (has_columns schema.now.columns.items (certificate_fields proposal.certificate))) }
+    ensures rules { IfOk result (λ _. IsTrue (has_rules schema.now.columns.items cond.now)) }
     ensures fault { IfErr result IsRefusal }
 {
     propose_in_order(alloc, schema, cond, cond)
@@ -56,13 +58,17 @@ pub fn propose_in_order<'a>(
         IsTrue (fits schema.now.columns.items proposal.program)) }
     ensures certificate { IfOk result (λ proposal.
         IsTrue (has_columns schema.now.columns.items (certificate_fields proposal.certificate))) }
+    ensures rules { IfOk result (λ _. IsTrue (has_rules schema.now.columns.items cond.now)) }
     ensures fault { IfErr result IsRefusal }
 {
     Ok(try_plans(alloc, schema, cond, order)?)
 }
 
-/// Returns why [`propose`] proposes no program for a condition, unless it proposes one.
-pub fn why_unplanned(alloc: Global, schema: &Schema, cond: &Cond) -> Option<Unplanned> {
+/// Returns why [`propose`] proposes no program for a condition, unless it proposes one. It proposes
+/// none for a condition that has no rules, as one that compares columns of unequal minimums.
+pub fn why_unplanned(alloc: Global, schema: &Schema, cond: &Cond) -> Option<Unplanned>
+    ensures rules { IfNone result (IsTrue (has_rules schema.now.columns.items cond.now)) }
+{
     try_plans(alloc, schema, cond, cond).err()
 }
 
@@ -77,6 +83,7 @@ fn try_plans<'a>(
         IsTrue (fits schema.now.columns.items proposal.program)) }
     ensures certificate { IfOk result (λ proposal.
         IsTrue (has_columns schema.now.columns.items (certificate_fields proposal.certificate))) }
+    ensures rules { IfOk result (λ _. IsTrue (has_rules schema.now.columns.items cond.now)) }
 {
     let mut reader = FormulaReader {
         alloc,

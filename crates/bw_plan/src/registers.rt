@@ -67,12 +67,12 @@ impl RegisterStates {
     /// Returns a register that holds this and from now on is needed, if one isn't needed so far.
     pub(crate) fn reserve(&mut self, content: Content) -> Option<Register> {
         let register = (self.find(Some(content))? % 64) as Register;
-        self.hold(register, Some(content));
+        self.occupy(register, Some(content));
         Some(register)
     }
 
-    /// Records what a register holds, which is needed.
-    pub(crate) fn hold(&mut self, register: Register, content: Option<Content>) {
+    /// Makes a register one that is needed, and holds this.
+    pub(crate) fn occupy(&mut self, register: Register, content: Option<Content>) {
         self.states[usize::from(register % 64)] = State {
             content,
             needed: true,

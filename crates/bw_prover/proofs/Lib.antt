@@ -1,1 +1,2 @@
 pub mod ColumnLemmas
+pub mod RuleLemmas

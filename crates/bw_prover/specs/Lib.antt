@@ -1,2 +1,5 @@
 pub mod ChainNames
 pub mod Comparison
+pub mod Growth
+pub mod Rows
+pub mod Rules

@@ -1,5 +1,6 @@
 //! Chains: nodes that compare the codes of columns, each computed once.
 ghost use Rattle.std.specs.Prelude.{◌≡◌, ◌≤◌};
+ghost use Rattle.bw_prover.specs.Growth.{HasGrown};
 
 use crate::columns::bit_variable;
 use crate::facts::{Cited, Facts};
@@ -69,6 +70,7 @@ impl Facts<'_> {
         link: Link,
     ) -> Result<(Option<u64>, u64), Unproved>
         requires { link.len ≤ 63 }
+        ensures grown { HasGrown self.old self.new }
     {
         if let Some(terminal) = terminal {
             return Ok((None, u64::from(terminal)));
@@ -80,6 +82,7 @@ impl Facts<'_> {
     /// Returns the chain of a comparison, and adds it and those of fewer bits if they are missing.
     pub(crate) fn chain(&mut self, whole: Link) -> Result<Cited, Unproved>
         requires { whole.len ≤ 63 }
+        ensures grown { HasGrown self.old self.new }
     {
         let mut last = None;
         for len in 0..=whole.len {
@@ -97,6 +100,7 @@ impl Facts<'_> {
     /// Returns a chain, and adds it if it is missing. `lower` is the chain of one bit less.
     fn link(&mut self, link: Link, lower: Option<Cited>) -> Result<Cited, Unproved>
         requires { link.len ≤ 63 }
+        ensures grown { HasGrown self.old self.new }
     {
         if let Some((number, Link { node, .. })) = self.chains.find(link.key()) {
             return Ok(Cited { number, node });
@@ -114,6 +118,7 @@ impl Facts<'_> {
     /// may have no variable there.
     fn node_above(&mut self, link: Link, lower: u64) -> Result<u64, Unproved>
         requires { link.len ≤ 63 }
+        ensures grown { HasGrown self.old self.new }
     {
         let place = link.len.checked_sub(1).ok_or(Unproved::NoRule)?;
         let low = self.node_if(link, false, place, lower)?;
@@ -129,6 +134,7 @@ impl Facts<'_> {
     /// has no bits of a bound.
     fn node_if(&mut self, link: Link, x: bool, place: u32, lower: u64) -> Result<u64, Unproved>
         requires { place ≤ 62 }
+        ensures grown { HasGrown self.old self.new }
     {
         let low = link.outcome(x, link.bound >> place & 1 == 1, lower);
         let right = link.right;

@@ -1,6 +1,10 @@
 //! The lines of a condition's steps, operands first, each with the nodes of where it is TRUE and
 //! where it is FALSE.
-ghost use Rattle.std.specs.Prelude.{◌≤◌};
+ghost use Rattle.std.specs.Prelude.{◌≤◌, IsTrue, IfOk, length};
+ghost use Rattle.std.specs.List.{list_all};
+ghost use Rattle.bw_model.specs.declared.cond.Op.TheVariants.{Eq};
+ghost use Rattle.bw_prover.specs.Growth.{HasGrown};
+ghost use Rattle.bw_prover.specs.Rules.{has_rules, is_comparable};
 
 use crate::chain::Link;
 use crate::columns::width_of;
@@ -20,8 +24,13 @@ type NodesResult = Result<TruthNodes, Unproved>;
 
 impl Prover<'_> {
     /// Returns the nodes of a condition, and appends the lines of its steps, operands first.
+    #[tactic(auto, using(crate::proofs::RuleLemmas::rules))]
     #[cycle(steps)]
-    pub(crate) fn steps(&mut self, cond: &Cond) -> NodesResult {
+    pub(crate) fn steps(&mut self, cond: &Cond) -> NodesResult
+        ensures grown { HasGrown self.old.facts self.new.facts }
+        ensures rules { IfOk result (λ _.
+            IsTrue (has_rules self.old.facts.schema.now.columns.items cond.now)) }
+    {
         match cond {
             Cond::Always => self.put_fixed(Truth::Yes),
             Cond::Cmp(op, x, y) => self.put_comparison(*op, *x, *y),
@@ -47,7 +56,11 @@ impl Prover<'_> {
 
     /// Returns the nodes of joined parts.
     #[cycle(steps)]
-    fn put_parts(&mut self, junction: Junction, parts: &[Cond]) -> NodesResult {
+    fn put_parts(&mut self, junction: Junction, parts: &[Cond]) -> NodesResult
+        ensures grown { HasGrown self.old.facts self.new.facts }
+        ensures rules { IfOk result (λ _. (1 ≤ length parts.now)
+            × IsTrue (list_all (has_rules self.old.facts.schema.now.columns.items) parts.now)) }
+    {
         let (first, others) = parts.split_first().ok_or(Unproved::NoRule)?;
         let mut made = self.steps(first)?;
         let before = self.facts.products.count;
@@ -74,7 +87,12 @@ impl Prover<'_> {
     }
 
     /// Returns the nodes of the OR of the equations of a list with one operand.
-    fn put_list(&mut self, x: Operand, items: &[Operand]) -> NodesResult {
+    fn put_list(&mut self, x: Operand, items: &[Operand]) -> NodesResult
+        ensures grown { HasGrown self.old.facts self.new.facts }
+        ensures rules { IfOk result (λ _. (1 ≤ length items.now)
+            × IsTrue (list_all (is_comparable self.old.facts.schema.now.columns.items Eq x)
+            items.now)) }
+    {
         let (first, others) = items.split_first().ok_or(Unproved::NoRule)?;
         let mut made = self.put_comparison(Op::Eq, x, *first)?;
         for item in others {
@@ -85,19 +103,25 @@ impl Prover<'_> {
     }
 
     /// Appends the line of a step, and returns its nodes.
-    fn put_step(&mut self, entry: ConditionEntry, yes: u64, no: u64) -> NodesResult {
+    fn put_step(&mut self, entry: ConditionEntry, yes: u64, no: u64) -> NodesResult
+        ensures grown { HasGrown self.old.facts self.new.facts }
+    {
         self.put(Entry::Condition(entry))?;
         Ok(TruthPair::of(yes, no))
     }
 
     /// Returns the nodes of a step with one truth on every row.
-    fn put_fixed(&mut self, truth: Truth) -> NodesResult {
+    fn put_fixed(&mut self, truth: Truth) -> NodesResult
+        ensures grown { HasGrown self.old.facts self.new.facts }
+    {
         let (yes, no) = (truth == Truth::Yes, truth == Truth::No);
         self.put_step(ConditionEntry::Fixed, u64::from(yes), u64::from(no))
     }
 
     /// Returns the nodes of two joined parts.
-    fn put_connective(&mut self, junction: Junction, a: TruthNodes, b: TruthNodes) -> NodesResult {
+    fn put_connective(&mut self, junction: Junction, a: TruthNodes, b: TruthNodes) -> NodesResult
+        ensures grown { HasGrown self.old.facts self.new.facts }
+    {
         let is_any = junction == Junction::Any;
         let ops = TruthPair::of(Connective::And, Connective::Or).opposite_if(is_any);
         let yes = self.facts.row(ops.yes, a.yes, b.yes)?;
@@ -111,7 +135,9 @@ impl Prover<'_> {
     }
 
     /// Returns the nodes of `IS TRUE`, `IS FALSE` or `IS UNKNOWN`.
-    fn put_truth_test(&mut self, truth: Truth, made: TruthNodes) -> NodesResult {
+    fn put_truth_test(&mut self, truth: Truth, made: TruthNodes) -> NodesResult
+        ensures grown { HasGrown self.old.facts self.new.facts }
+    {
         let yes = match truth {
             Truth::Yes => made.yes,
             Truth::No => made.no,
@@ -127,12 +153,16 @@ impl Prover<'_> {
     }
 
     /// Returns the row of a node's complement.
-    fn opposite(&mut self, node: u64) -> Result<Cited, Unproved> {
+    fn opposite(&mut self, node: u64) -> Result<Cited, Unproved>
+        ensures grown { HasGrown self.old.facts self.new.facts }
+    {
         self.facts.row(Connective::Diff, 1, node)
     }
 
     /// Returns the nodes of `IS NULL`.
-    fn put_null_test(&mut self, x: Operand) -> NodesResult {
+    fn put_null_test(&mut self, x: Operand) -> NodesResult
+        ensures grown { HasGrown self.old.facts self.new.facts }
+    {
         let Some(yes) = self.facts.nulls(x)? else {
             return self.put_fixed(Truth::of(x == Operand::Null));
         };
@@ -141,7 +171,11 @@ impl Prover<'_> {
     }
 
     /// Returns the nodes of a comparison.
-    fn put_comparison(&mut self, op: Op, x: Operand, y: Operand) -> NodesResult {
+    fn put_comparison(&mut self, op: Op, x: Operand, y: Operand) -> NodesResult
+        ensures grown { HasGrown self.old.facts self.new.facts }
+        ensures rule { IfOk result (λ _.
+            IsTrue (is_comparable self.old.facts.schema.now.columns.items op x y)) }
+    {
         match compare(self.facts.schema, op, x, y).ok_or(Unproved::NoRule)? {
             Comparison::Fixed(truth) => self.put_fixed(truth),
             Comparison::Literal(column, compared) => self.put_literal_comparison(column, compared),
@@ -151,7 +185,9 @@ impl Prover<'_> {
 
     /// Returns the row and the node that is 1 if an operand, a column, has a value: none, and 1, if
     /// it always has.
-    fn values(&mut self, x: Operand) -> Result<(Option<u64>, u64), Unproved> {
+    fn values(&mut self, x: Operand) -> Result<(Option<u64>, u64), Unproved>
+        ensures grown { HasGrown self.old.facts self.new.facts }
+    {
         let Some(nulls) = self.facts.nulls(x)? else {
             return Ok((None, 1));
         };
@@ -160,18 +196,18 @@ impl Prover<'_> {
     }
 
     /// Returns the rows of where node `m` is 1 and node `e` is 1, or is 0.
-    fn sides(&mut self, m: u64, e: u64) -> Result<TruthPair<Cited>, Unproved> {
+    fn sides(&mut self, m: u64, e: u64) -> Result<TruthPair<Cited>, Unproved>
+        ensures grown { HasGrown self.old.facts self.new.facts }
+    {
         let yes = self.facts.row(Connective::And, m, e)?;
         let no = self.facts.row(Connective::Diff, m, e)?;
         Ok(TruthPair::of(yes, no))
     }
 
     /// Returns the nodes of a comparison of a column with a number.
-    fn put_literal_comparison(
-        &mut self,
-        column: usize,
-        compared: LiteralComparison,
-    ) -> NodesResult {
+    fn put_literal_comparison(&mut self, column: usize, compared: LiteralComparison) -> NodesResult
+        ensures grown { HasGrown self.old.facts self.new.facts }
+    {
         let width = width_of(self.facts.schema, column).ok_or(Unproved::NoRule)?;
         let (value, m) = self.values(Operand::Col(column))?;
         let limit = u64::try_from(compared.limit).unwrap_or(0);
@@ -190,7 +226,9 @@ impl Prover<'_> {
 
     /// Returns the nodes of a comparison of two columns, the shorter one with zeros above its top
     /// bit.
-    fn put_columns(&mut self, x: Operand, y: Operand, compared: ColumnComparison) -> NodesResult {
+    fn put_columns(&mut self, x: Operand, y: Operand, compared: ColumnComparison) -> NodesResult
+        ensures grown { HasGrown self.old.facts self.new.facts }
+    {
         let width = width_of(self.facts.schema, compared.left).ok_or(Unproved::NoRule)?;
         let len = width.max(width_of(self.facts.schema, compared.right).ok_or(Unproved::NoRule)?);
         let (left, m) = self.values(x)?;

@@ -1,5 +1,5 @@
 //! Certificates, from facts and the lines that reference them.
-ghost use Rattle.std.specs.Prelude.{IsTrue, IfOk};
+ghost use Rattle.std.specs.Prelude.{◌≡◌, IsTrue, IfOk, length};
 ghost use Rattle.bw_cert_text.specs.CertificateFields.{certificate_fields};
 ghost use Rattle.bw_cert_text.specs.Columns.{has_columns, is_column};
 ghost use Rattle.bw_prover.specs.ChainNames.{is_chain_named, are_chains_named};
@@ -22,8 +22,10 @@ pub(crate) fn certificate<'a>(
     body: Body,
     row: u64,
 ) -> Result<Certificate<'a>, Unproved>
-    ensures { IfOk result (λ certificate.
+    ensures columns { IfOk result (λ certificate.
         IsTrue (has_columns schema.now.columns.items (certificate_fields certificate))) }
+    ensures rows { IfOk result (λ certificate.
+        length certificate.products ≡ facts.entry.products.count) }
 {
     let chains = chain_lines(facts.alloc, schema, &facts.chains.entries)?;
     let nodes = facts.nodes.lines(facts.alloc)?;

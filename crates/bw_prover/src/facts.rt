@@ -1,5 +1,9 @@
 //! What a certificate states: nodes, chains and product rows, each once and after those it follows
 //! from. Each is added when it is first requested, as the line that states it.
+ghost use Rattle.std.specs.Prelude.{◌≡◌, IfOk, min};
+ghost use Rattle.bw_diagram.specs.Facts.{most_products};
+ghost use Rattle.bw_prover.specs.Growth.{HasGrown};
+
 use crate::chain::Link;
 use crate::columns::null_variable;
 use crate::ledger::Ledger;
@@ -43,7 +47,10 @@ impl<'a> Facts<'a> {
         schema: &'a Schema,
         cond: &Cond,
         rows: u32,
-    ) -> Result<Self, AllocError> {
+    ) -> Result<Self, AllocError>
+        ensures schema { IfOk result (λ facts. facts.schema.now ≡ schema.now) }
+        ensures limit { IfOk result (λ facts. facts.products.limit ≡ min rows most_products) }
+    {
         Ok(Facts {
             alloc,
             schema,
@@ -65,13 +72,17 @@ impl<'a> Facts<'a> {
     }
 
     /// Returns the node that tests a variable.
-    pub(crate) fn test(&mut self, v: u64, low: u64, high: u64) -> Result<u64, Unproved> {
+    pub(crate) fn test(&mut self, v: u64, low: u64, high: u64) -> Result<u64, Unproved>
+        ensures grown { HasGrown self.old self.new }
+    {
         self.nodes.number_of(Branch { v, low, high })
     }
 
     /// Returns the node that has these children for a variable's bit. If they are the same node, it
     /// is that one, unless that tests the same variable.
-    pub(crate) fn choice(&mut self, v: u64, low: u64, high: u64) -> Result<u64, Unproved> {
+    pub(crate) fn choice(&mut self, v: u64, low: u64, high: u64) -> Result<u64, Unproved>
+        ensures grown { HasGrown self.old self.new }
+    {
         if low == high && !matches!(self.nodes.get(low), Some(node) if node.v == v) {
             return Ok(low);
         }
@@ -79,7 +90,9 @@ impl<'a> Facts<'a> {
     }
 
     /// Returns the node that is 1 if an operand is null, if it is a column that may be.
-    pub(crate) fn nulls(&mut self, x: Operand) -> Result<Option<u64>, Unproved> {
+    pub(crate) fn nulls(&mut self, x: Operand) -> Result<Option<u64>, Unproved>
+        ensures grown { HasGrown self.old self.new }
+    {
         if let Operand::Col(column) = x
             && let Some(variable) = null_variable(self.schema, column)
         {

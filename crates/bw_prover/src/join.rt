@@ -1,5 +1,6 @@
 //! Joins: what is known of registers where skips meet what falls through.
 ghost use Rattle.std.specs.Prelude.{◌<◌};
+ghost use Rattle.bw_prover.specs.Growth.{HasGrown};
 
 use crate::prover::Prover;
 use crate::unproved::Unproved;
@@ -19,7 +20,9 @@ pub(crate) struct KnownSkip {
 impl Prover<'_> {
     /// Appends the lines of a place's join, if skips lead there. Each register that is read later
     /// is kept if it has the same value by each skip as on fall-through; else it isn't known.
-    pub(crate) fn meet(&mut self, walk: &mut Walk, read: RegisterSet) -> Result<(), Unproved> {
+    pub(crate) fn meet(&mut self, walk: &mut Walk, read: RegisterSet) -> Result<(), Unproved>
+        ensures grown { HasGrown self.old.facts self.new.facts }
+    {
         let place = walk.place;
         if walk.arrivals.iter().all(|from| from.skip.target != place) {
             return Ok(());
@@ -44,6 +47,7 @@ impl Prover<'_> {
     /// skip's register is 1. Otherwise returns how it is lost.
     fn keep(&mut self, walk: &Walk, register: Register, node: u64) -> Result<Held, Unproved>
         requires { register < 64 }
+        ensures grown { HasGrown self.old.facts self.new.facts }
     {
         let mut pairs = Vec::new(self.facts.alloc);
         for Arrival { skip, registers } in &walk.arrivals {

@@ -1,4 +1,6 @@
 //! Facts in the order in which they were added, each of which occurs once and can be found.
+ghost use Rattle.std.specs.Prelude.{◌≡◌, ◌≤◌, IfOk, length};
+
 use crate::unproved::Unproved;
 use std::alloc::Global;
 
@@ -17,6 +19,8 @@ pub(crate) struct Ledger<T: Copy> {
     pub(crate) count: u32,
     /// How many entries it may have.
     pub(crate) limit: u32,
+    pub(crate) ghost counted: { length entries.items ≡ count },
+    pub(crate) ghost within: { count ≤ limit },
 }
 
 /// How many slots there are at first.
@@ -24,7 +28,10 @@ const FEWEST_SLOTS: usize = 256;
 
 impl<T: Copy> Ledger<T> {
     /// Returns no entries, with a limit of their number.
-    pub(crate) fn new(alloc: Global, limit: u32) -> Self {
+    pub(crate) fn new(alloc: Global, limit: u32) -> Self
+        ensures count { result.count ≡ 0 }
+        ensures limit { result.limit ≡ limit }
+    {
         Ledger {
             entries: Vec::new(alloc),
             keys: Vec::new(alloc),
@@ -42,7 +49,10 @@ impl<T: Copy> Ledger<T> {
     }
 
     /// Adds an entry with a new key, and returns its number.
-    pub(crate) fn push(&mut self, key: Key, entry: T) -> Result<u64, Unproved> {
+    pub(crate) fn push(&mut self, key: Key, entry: T) -> Result<u64, Unproved>
+        ensures limit { self.new.limit ≡ self.old.limit }
+        ensures count { self.old.count ≤ self.new.count }
+    {
         let number = self.count;
         if number >= self.limit {
             return Err(Unproved::Limit);
@@ -50,11 +60,23 @@ impl<T: Copy> Ledger<T> {
         if number as usize >= self.slots.len() / 2 {
             self.spread()?;
         }
-        self.entries.push(entry)?;
         self.keys.push(key)?;
+        self.entries.push(entry)?;
         self.count = number + 1;
         self.fill(key, self.count);
         Ok(u64::from(number))
+    }
+
+    /// Sets how many entries it may have. Fails if it has more.
+    pub(crate) fn set_limit(&mut self, limit: u32) -> Result<(), Unproved>
+        ensures limit { IfOk result (λ _. self.new.limit ≡ limit) }
+        ensures count { self.new.count ≡ self.old.count }
+    {
+        if self.count > limit {
+            return Err(Unproved::Limit);
+        }
+        self.limit = limit;
+        Ok(())
     }
 
     /// Returns the slot of the entry with a key, or else the empty one for it: at least every second
@@ -76,7 +98,11 @@ impl<T: Copy> Ledger<T> {
     }
 
     /// Writes a number into the slot of a key.
-    fn fill(&mut self, key: Key, number: u32) {
+    fn fill(&mut self, key: Key, number: u32)
+        ensures entries { self.new.entries ≡ self.old.entries }
+        ensures count { self.new.count ≡ self.old.count }
+        ensures limit { self.new.limit ≡ self.old.limit }
+    {
         let slot = self.slot_of(key);
         if let Some(place) = self.slots.get_mut(slot) {
             *place = number;
@@ -84,7 +110,11 @@ impl<T: Copy> Ledger<T> {
     }
 
     /// Spreads the entries over twice as many slots, or some more.
-    fn spread(&mut self) -> Result<(), Unproved> {
+    fn spread(&mut self) -> Result<(), Unproved>
+        ensures entries { self.new.entries ≡ self.old.entries }
+        ensures count { self.new.count ≡ self.old.count }
+        ensures limit { self.new.limit ≡ self.old.limit }
+    {
         let slots = 4 * self.count as usize + FEWEST_SLOTS;
         self.slots.clear();
         self.slots.resize(slots, 0)?;

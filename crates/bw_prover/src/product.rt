@@ -1,4 +1,6 @@
 //! Product rows: connectives of nodes, each computed once.
+ghost use Rattle.bw_prover.specs.Growth.{HasGrown};
+
 use crate::emit::NO_LINE;
 use crate::facts::{Cited, Facts};
 use crate::ledger::Key;
@@ -41,7 +43,9 @@ impl Question {
 impl Facts<'_> {
     /// Returns the product row of a connective of two nodes, and adds it and those it follows from
     /// if they are missing. A question that waits has three turns.
-    pub(crate) fn row(&mut self, op: Connective, a: u64, b: u64) -> Result<Cited, Unproved> {
+    pub(crate) fn row(&mut self, op: Connective, a: u64, b: u64) -> Result<Cited, Unproved>
+        ensures grown { HasGrown self.old self.new }
+    {
         self.waiting.clear();
         let mut made = self.row_or_wait(Question { op, a, b })?;
         for _ in 0..4 * u64::from(MAX_PRODUCTS) {
@@ -54,7 +58,9 @@ impl Facts<'_> {
     }
 
     /// Returns the row of a question if it is known or a shortcut; else the question waits.
-    fn row_or_wait(&mut self, asked: Question) -> Result<Option<Cited>, Unproved> {
+    fn row_or_wait(&mut self, asked: Question) -> Result<Option<Cited>, Unproved>
+        ensures grown { HasGrown self.old self.new }
+    {
         if let Some((number, ProductLine { c: node, .. })) = self.products.find(asked.key()) {
             return Ok(Some(Cited { number, node }));
         }
@@ -68,7 +74,9 @@ impl Facts<'_> {
 
     /// Returns the row of the question that waited last, if `made` is the second of its cofactors'
     /// rows; else it waits for the next of these.
-    fn go_on(&mut self, last: Waiting, made: Option<Cited>) -> Result<Option<Cited>, Unproved> {
+    fn go_on(&mut self, last: Waiting, made: Option<Cited>) -> Result<Option<Cited>, Unproved>
+        ensures grown { HasGrown self.old self.new }
+    {
         let (asked, v, low) = last;
         if let (Some(low), Some(high)) = (low, made) {
             let node = self.choice(v, low.node, high.node)?;
@@ -85,7 +93,9 @@ impl Facts<'_> {
     }
 
     /// Adds a row.
-    fn add_row(&mut self, asked: Question, node: u64, reason: Reason) -> Result<Cited, Unproved> {
+    fn add_row(&mut self, asked: Question, node: u64, reason: Reason) -> Result<Cited, Unproved>
+        ensures grown { HasGrown self.old self.new }
+    {
         let row = ProductLine {
             line: NO_LINE,
             n: u64::from(self.products.count),

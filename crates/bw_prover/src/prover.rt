@@ -1,7 +1,11 @@
 //! The prover: from a condition and a program to a certificate, or to why there is none.
-ghost use Rattle.std.specs.Prelude.{IsTrue, IfOk};
+ghost use Rattle.std.specs.Prelude.{◌≡◌, ◌≤◌, IsTrue, IfOk, length, min};
 ghost use Rattle.bw_cert_text.specs.CertificateFields.{certificate_fields};
 ghost use Rattle.bw_cert_text.specs.Columns.{has_columns};
+ghost use Rattle.bw_diagram.specs.Facts.{most_products};
+ghost use Rattle.bw_prover.specs.Growth.{HasGrown};
+ghost use Rattle.bw_prover.specs.Rows.{row_count};
+ghost use Rattle.bw_prover.specs.Rules.{has_rules};
 
 use crate::emit::{NO_LINE, certificate};
 use crate::facts::Facts;
@@ -27,8 +31,11 @@ pub fn prove<'a>(
     program: &Program,
     rows: u32,
 ) -> Result<Certificate<'a>, Unproved>
-    ensures { IfOk result (λ certificate.
+    ensures columns { IfOk result (λ certificate.
         IsTrue (has_columns schema.now.columns.items (certificate_fields certificate))) }
+    ensures limit { IfOk result (λ certificate.
+        length certificate.products ≤ min rows most_products) }
+    ensures rules { IfOk result (λ _. IsTrue (has_rules schema.now.columns.items cond.now)) }
 {
     Prover::new(alloc, schema, cond, rows, u32::MAX)?.certify(schema, program, rows)
 }
@@ -55,7 +62,10 @@ impl<'a> Prover<'a> {
         cond: &Cond,
         rows: u32,
         forecast_from: u32,
-    ) -> Result<Self, Unproved> {
+    ) -> Result<Self, Unproved>
+        ensures rows { IfOk result (λ prover. row_count prover ≤ min rows most_products) }
+        ensures rules { IfOk result (λ _. IsTrue (has_rules schema.now.columns.items cond.now)) }
+    {
         let mut prover = Prover {
             facts: Facts::new(alloc, schema, cond, rows)?,
             lines: Body::new(alloc),
@@ -67,7 +77,9 @@ impl<'a> Prover<'a> {
     }
 
     /// Returns how many product rows there are so far.
-    pub fn rows(&self) -> u32 {
+    pub fn rows(&self) -> u32
+        ensures { result ≡ row_count self.now }
+    {
         self.facts.products.count
     }
 
@@ -78,10 +90,14 @@ impl<'a> Prover<'a> {
         program: &Program,
         rows: u32,
     ) -> Result<Certificate<'a>, Unproved>
-        ensures { IfOk result (λ certificate.
+        ensures columns { IfOk result (λ certificate.
             IsTrue (has_columns schema.now.columns.items (certificate_fields certificate))) }
+        ensures rows { IfOk result (λ certificate.
+            row_count self.entry ≤ length certificate.products) }
+        ensures limit { IfOk result (λ certificate.
+            length certificate.products ≤ min rows most_products) }
     {
-        self.facts.products.limit = rows.min(MAX_PRODUCTS);
+        self.facts.products.set_limit(rows.min(MAX_PRODUCTS))?;
         let (made, wanted) = (self.walk(program)?, self.wanted);
         let row = self.facts.row(Connective::Xor, made, wanted)?;
         if row.node != 0 {
@@ -91,7 +107,9 @@ impl<'a> Prover<'a> {
     }
 
     /// Appends a line.
-    pub(crate) fn put(&mut self, entry: Entry<'_>) -> Result<(), Unproved> {
+    pub(crate) fn put(&mut self, entry: Entry<'_>) -> Result<(), Unproved>
+        ensures grown { HasGrown self.old.facts self.new.facts }
+    {
         let line = NO_LINE;
         self.lines.push(&BodyLine { line, entry })?;
         Ok(())

@@ -1,5 +1,7 @@
 //! One walk over a program's instructions, which gives each register its node, after one from the
 //! end, which finds the registers that are read later.
+ghost use Rattle.bw_prover.specs.Growth.{HasGrown};
+
 use crate::chain::Link;
 use crate::columns::{bit_variable, null_variable, width_of};
 use crate::join::KnownSkip;
@@ -43,7 +45,9 @@ type Effect = (InstructionEntry, u64);
 
 impl Prover<'_> {
     /// Appends the lines of a program's instructions and joins, and returns the result's node.
-    pub(crate) fn walk(&mut self, program: &Program) -> Result<u64, Unproved> {
+    pub(crate) fn walk(&mut self, program: &Program) -> Result<u64, Unproved>
+        ensures grown { HasGrown self.old.facts self.new.facts }
+    {
         let alloc = self.facts.alloc;
         let reads = read_later(alloc, program)?;
         let mut walk = Walk {
@@ -62,7 +66,9 @@ impl Prover<'_> {
     }
 
     /// Appends the line of an instruction, and records its effect.
-    fn follow(&mut self, walk: &mut Walk, instr: Instr) -> Result<(), Unproved> {
+    fn follow(&mut self, walk: &mut Walk, instr: Instr) -> Result<(), Unproved>
+        ensures grown { HasGrown self.old.facts self.new.facts }
+    {
         let (entry, node) = self.effect(walk, instr)?;
         self.put(Entry::Instruction(entry))?;
         if let Instr::Skip(_, target) = instr {
@@ -80,7 +86,9 @@ impl Prover<'_> {
     }
 
     /// Returns the node of a register that the instruction reads.
-    fn read(&mut self, walk: &Walk, register: Register) -> Result<u64, Unproved> {
+    fn read(&mut self, walk: &Walk, register: Register) -> Result<u64, Unproved>
+        ensures grown { HasGrown self.old.facts self.new.facts }
+    {
         let instruction = walk.place;
         match walk.registers.get(usize::from(register)).copied() {
             Some(Held::Node(node)) => Ok(node),
@@ -99,7 +107,9 @@ impl Prover<'_> {
     }
 
     /// Returns the effect of an instruction.
-    fn effect(&mut self, walk: &Walk, instr: Instr) -> Result<Effect, Unproved> {
+    fn effect(&mut self, walk: &Walk, instr: Instr) -> Result<Effect, Unproved>
+        ensures grown { HasGrown self.old.facts self.new.facts }
+    {
         let (op, a, b) = match instr {
             Instr::And(_, x, y) => (Connective::And, self.read(walk, x)?, self.read(walk, y)?),
             Instr::Or(_, x, y) => (Connective::Or, self.read(walk, x)?, self.read(walk, y)?),
@@ -126,14 +136,18 @@ impl Prover<'_> {
     }
 
     /// Returns the effect of an instruction that loads the plane of a variable.
-    fn load(&mut self, variable: Option<u64>) -> Result<Effect, Unproved> {
+    fn load(&mut self, variable: Option<u64>) -> Result<Effect, Unproved>
+        ensures grown { HasGrown self.old.facts self.new.facts }
+    {
         let node = self.facts.test(variable.ok_or(Unproved::NoRule)?, 0, 1)?;
         Ok((InstructionEntry::Load(node), node))
     }
 
     /// Returns the effect of a byte comparison, whose length isn't known yet. One with a number
     /// that is greater than each byte has no chain.
-    fn byte(&mut self, link: Link) -> Result<Effect, Unproved> {
+    fn byte(&mut self, link: Link) -> Result<Effect, Unproved>
+        ensures grown { HasGrown self.old.facts self.new.facts }
+    {
         let width = width_of(self.facts.schema, link.left).ok_or(Unproved::NoRule)?;
         let above = width.checked_sub(8 * u32::from(link.slice));
         let len = above.ok_or(Unproved::NoRule)?.min(8);

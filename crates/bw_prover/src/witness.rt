@@ -1,4 +1,6 @@
 //! Rows on which a node is 1.
+ghost use Rattle.bw_prover.specs.Growth.{HasGrown};
+
 use crate::chain::Link;
 use crate::columns::{null_variable, width_of};
 use crate::facts::Facts;
@@ -10,7 +12,9 @@ use std::alloc::{AllocError, Global};
 
 impl Facts<'_> {
     /// Returns what is wrong with a program whose result differs where a node is 1.
-    pub(crate) fn difference(&mut self, node: u64) -> Result<Unproved, Unproved> {
+    pub(crate) fn difference(&mut self, node: u64) -> Result<Unproved, Unproved>
+        ensures grown { HasGrown self.old self.new }
+    {
         if !self.order.is_total {
             return Ok(Unproved::Unordered);
         }
@@ -26,7 +30,9 @@ impl Facts<'_> {
         &mut self,
         skip: KnownSkip,
         differs: Option<u64>,
-    ) -> Result<Option<Witness>, Unproved> {
+    ) -> Result<Option<Witness>, Unproved>
+        ensures grown { HasGrown self.old self.new }
+    {
         let Some(differs) = differs else {
             return Ok(None);
         };
@@ -40,7 +46,9 @@ impl Facts<'_> {
     }
 
     /// Returns a row on which one node is 1, and one on which another is, if the schema admits both.
-    fn rows_of(&mut self, through: u64, taken: u64) -> Result<Option<Witness>, Unproved> {
+    fn rows_of(&mut self, through: u64, taken: u64) -> Result<Option<Witness>, Unproved>
+        ensures grown { HasGrown self.old self.new }
+    {
         let Some(through) = self.row_of(through)? else {
             return Ok(None);
         };
@@ -48,7 +56,9 @@ impl Facts<'_> {
     }
 
     /// Returns a row that the schema admits and on whose bits a node is 1, if there is one.
-    fn row_of(&mut self, node: u64) -> Result<Option<Row>, Unproved> {
+    fn row_of(&mut self, node: u64) -> Result<Option<Row>, Unproved>
+        ensures grown { HasGrown self.old self.new }
+    {
         let mut part = node;
         for column in 0..self.schema.columns.len() {
             let admitted = self.admitted_node(column)?;
@@ -63,7 +73,9 @@ impl Facts<'_> {
 
     /// Returns the node that is 1 where a column's bits are those of an admitted value: a code up
     /// to its maximum, or null and all bits 0.
-    fn admitted_node(&mut self, column: usize) -> Result<u64, Unproved> {
+    fn admitted_node(&mut self, column: usize) -> Result<u64, Unproved>
+        ensures grown { HasGrown self.old self.new }
+    {
         let width = width_of(self.schema, column).ok_or(Unproved::NoRule)?;
         let found = self.schema.columns.get(column).ok_or(Unproved::NoRule)?;
         let bound = found.hi.abs_diff(found.lo).saturating_add(1);

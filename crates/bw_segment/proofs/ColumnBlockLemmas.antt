@@ -1,23 +1,27 @@
 -- Blocks that are kept column by column, put together to segments.
 use Rattle.std.proofs.Common.{◌≡◌, ◌≢◌, ◌∙◌, refl, sym, ap, ap₂, subst, ℕ, ◌+◌, ◌-◌, ◌*◌, ◌<◌, ◌≤◌}
-use Rattle.std.proofs.Common.{true, ◌&&◌, leb, ltb, List, [], ◌++◌, flat_map, map, set, get_or}
+use Rattle.std.proofs.Common.{true, ◌&&◌, leb, ltb, List, [], ◌∷◌, ◌++◌, flat_map, map, set, get_or}
 use Rattle.std.proofs.Common.{length, take, drop, slice_range, length-append, length-drop}
 use Rattle.std.proofs.Common.{length-take, length-set, inl, inr, arith}
 use Rattle.std.specs.List.{range_with_len}
 use Rattle.std.specs.Str.{bytes_eq}
-use Rattle.std.proofs.lemmas.Bool.{and_from, and_parts, cases_lt, le-leb, leb-true, lt-ltb}
+use Rattle.std.proofs.lemmas.Bool.{and_from, and_parts, cases_eq, cases_lt, le-leb, leb-true, lt-ltb}
 use Rattle.std.proofs.lemmas.Bool.Decides.{Decides-ltb}
 use Rattle.std.proofs.lemmas.List.{get_or-map, get_or-set_other, get_or-set_same, length-map}
-use Rattle.std.proofs.lemmas.List.{map-set}
+use Rattle.std.proofs.lemmas.List.{map-append, map-set, take_all}
 use Rattle.std.proofs.lemmas.List.FromFn.{get_or-map-range_with_len, length-map-range_with_len}
+use Rattle.std.proofs.lemmas.List.FromFn.{map-range_with_len_more}
 use Rattle.std.proofs.Math.Seq.{map-set_same}
 use Rattle.std.proofs.lemmas.Nat.{mul-le}
 use Rattle.std.proofs.lemmas.Slice.Eq.{bytes_eq-Decides}
 use Rattle.bw_model.specs.declared.column.Column.{Column}
 use Rattle.bw_segment.specs.declared.column_blocks.ColumnBlocks.{ColumnBlocks}
-use Rattle.bw_segment.specs.ColumnBlocks.{StoresBlocks, block_numbered, block_start, bytes_kept}
-use Rattle.bw_segment.specs.ColumnBlocks.{segment_numbered, size_kept, stands_numbered}
-use Rattle.bw_segment.specs.Packing.{Packing, block_at, block_size, bytes_before, segment_size}
+use Rattle.bw_segment.specs.ColumnBlocks.{AreBlank, HasBlocks, StoresBlocks, block_numbered}
+use Rattle.bw_segment.specs.ColumnBlocks.{block_start, bytes_kept, segment_numbered, size_kept}
+use Rattle.bw_segment.specs.ColumnBlocks.{stands_numbered, stride_kept}
+use Rattle.bw_segment.specs.Packing.{Packing, IsPacking, block_at, block_bytes, block_size}
+use Rattle.bw_segment.specs.Packing.{bytes_before, segment_size}
+use Rattle.bw_segment.proofs.BlankLemmas.{length-blank}
 use Rattle.bw_segment.proofs.LayoutLemmas.{block_of_joined, cuts_are_all, length-blocks, piece_kept}
 use Rattle.bw_segment.proofs.LayoutLemmas.{piece_last}
 use Rattle.bw_segment.proofs.PackedLemmas.{slice_is_block}
@@ -30,13 +34,33 @@ items blocks = blocks.bytes.items
 abbrev pub no_bytes : ℕ → List ℕ
 no_bytes col = []
 
+-- what is mapped of columns, if one is put after them
+pub mapped_more : {A : Type 0} (f : ColumnBlocks → A) (g : ℕ → A) (old now : List ColumnBlocks) (new : ColumnBlocks) (col : ℕ) → now ≡ old ++ new ∷ [] → map f old ≡ map g (range_with_len 0 col) → f new ≡ g col
+    → map f now ≡ map g (range_with_len 0 (col + 1))
+mapped_more {A = A} f g old now new col items so_far here =
+    ap (map f) items ∙ map-append f old (new ∷ []) ∙ ap₂ (λ (l : List A) (x : A). l ++ x ∷ []) so_far here ∙ sym (map-range_with_len_more g 0 col col (omega arith))
+
+-- columns that have the block of no rows
+pub are_blank : (packing : Packing) (columns : List Column) (kept : List ColumnBlocks) (count : ℕ) → count ≡ length columns
+    → map (λ (blocks : ColumnBlocks). blocks.size) kept ≡ map (block_size packing columns) (range_with_len 0 count)
+    → map (λ (blocks : ColumnBlocks). blocks.stride) kept ≡ map (λ (column : ℕ). 0) (range_with_len 0 count)
+    → map items kept ≡ map (λ column. block_bytes packing columns column []) (range_with_len 0 count) → AreBlank packing columns kept
+are_blank packing columns kept count all sizes strides bytes = record {
+  all = sym (length-map kept items) ∙ ap length bytes ∙ length-map-range_with_len (λ column. block_bytes packing columns column []) 0 count ∙ all;
+  sizes = λ col lt. ap (λ (l : List ℕ). get_or l col 0) sizes ∙ get_or-map-range_with_len (block_size packing columns) 0 count col col 0 (omega arith) (omega arith);
+  strides = λ col lt. ap (λ (l : List ℕ). get_or l col 0) strides ∙ get_or-map-range_with_len (λ (column : ℕ). 0) 0 count col col 0 (omega arith) (omega arith);
+  bytes = λ col lt. ap (λ (l : List (List ℕ)). get_or l col []) bytes ∙ get_or-map-range_with_len (λ column. block_bytes packing columns column []) 0 count col col [] (omega arith) (omega arith);
+}
+
 -- columns without a block
 pub none_kept : (packing : Packing) (columns : List Column) (kept : List ColumnBlocks) (count : ℕ) → count ≡ length columns
     → map (λ (blocks : ColumnBlocks). blocks.size) kept ≡ map (block_size packing columns) (range_with_len 0 count)
+    → map (λ (blocks : ColumnBlocks). blocks.stride) kept ≡ map (block_size packing columns) (range_with_len 0 count)
     → map items kept ≡ map no_bytes (range_with_len 0 count) → StoresBlocks packing columns 0 kept
-none_kept packing columns kept count all sizes none = record {
+none_kept packing columns kept count all sizes strides none = record {
   all = sym (length-map kept items) ∙ ap length none ∙ length-map-range_with_len no_bytes 0 count ∙ all;
   sizes = λ col lt. ap (λ (l : List ℕ). get_or l col 0) sizes ∙ get_or-map-range_with_len (block_size packing columns) 0 count col col 0 (omega arith) (omega arith);
+  strides = λ col lt. ap (λ (l : List ℕ). get_or l col 0) strides ∙ get_or-map-range_with_len (block_size packing columns) 0 count col col 0 (omega arith) (omega arith);
   long = λ col lt.
       let bytes : bytes_kept kept col ≡ [] = ap (λ (l : List (List ℕ)). get_or l col []) none ∙ get_or-map-range_with_len no_bytes 0 count col col [] (omega arith) (omega arith) in
       omega (arith, ap length bytes);
@@ -45,6 +69,9 @@ none_kept packing columns kept count all sizes none = record {
 -- what is read of a column
 pub size_read : (kept : List ColumnBlocks) (col : ℕ) (d : ColumnBlocks) → col < length kept → size_kept kept col ≡ (get_or kept col d).size
 size_read kept col d lt = get_or-map (λ (blocks : ColumnBlocks). blocks.size) kept col d 0 lt
+
+pub stride_read : (kept : List ColumnBlocks) (col : ℕ) (d : ColumnBlocks) → col < length kept → stride_kept kept col ≡ (get_or kept col d).stride
+stride_read kept col d lt = get_or-map (λ (blocks : ColumnBlocks). blocks.stride) kept col d 0 lt
 
 pub bytes_read : (kept : List ColumnBlocks) (col : ℕ) (d : ColumnBlocks) → col < length kept → bytes_kept kept col ≡ (get_or kept col d).bytes.items
 bytes_read kept col d lt = get_or-map (λ (blocks : ColumnBlocks). blocks.bytes.items) kept col d [] lt
@@ -75,27 +102,91 @@ module _ (kept : List ColumnBlocks) (number col start end : ℕ) (stands : stand
     abbrev blocks : ColumnBlocks
     blocks = get_or kept col d
 
-    pub room_read : number * blocks.size + blocks.size ≤ length blocks.bytes.items
+    pub room_read : number * blocks.stride + blocks.size ≤ length blocks.bytes.items
     room_read =
         let size = size_read kept col d is_column in
-        omega (arith, has_room, ap (λ n. number * n) size, size, ap length (bytes_read kept col d is_column))
+        omega (arith, has_room, ap (λ n. number * n) (stride_read kept col d is_column), size, ap length (bytes_read kept col d is_column))
 
-    pub block_read : slice_range blocks.bytes.items (number * blocks.size) (number * blocks.size + blocks.size) ≡ slice_range (segment_numbered kept number) start end
+    pub block_read : slice_range blocks.bytes.items (number * blocks.stride) (number * blocks.stride + blocks.size) ≡ slice_range (segment_numbered kept number) start end
     unfolding block_numbered
     block_read =
-        ap₂ (λ (l : List ℕ) (size : ℕ). slice_range l (number * size) (number * size + size)) (sym (bytes_read kept col d is_column)) (sym (size_read kept col d is_column)) ∙ is_there
+        ap₂ (λ (l : List ℕ) (size : ℕ). slice_range l (number * blocks.stride) (number * blocks.stride + size)) (sym (bytes_read kept col d is_column)) (sym (size_read kept col d is_column))
+        ∙ ap (λ (stride : ℕ). slice_range (bytes_kept kept col) (number * stride) (number * stride + size_kept kept col)) (sym (stride_read kept col d is_column)) ∙ is_there
+
+-- one block for all segments
+module _ (packing : Packing) (law : IsPacking packing) (columns : List Column) (kept : List ColumnBlocks) (blank : AreBlank packing columns kept) where
+  pub blank_has : (count : ℕ) → HasBlocks packing columns count kept
+  blank_has count = record {
+    all = blank.all;
+    sizes = blank.sizes;
+    room = λ col lt number there.
+        omega (arith, ap (λ n. number * n) (blank.strides col lt), ap length (blank.bytes col lt), length-blank packing law columns col lt);
+  }
+
+  pub blank_numbered : (number col : ℕ) → col < length columns → block_numbered kept number col ≡ block_bytes packing columns col []
+  unfolding block_numbered
+  blank_numbered number col lt =
+      let block = block_bytes packing columns col [] in
+      let none : block_start kept number col ≡ 0 = omega (arith, ap (λ n. number * n) (blank.strides col lt)) in
+      ap₂ (λ (l : List ℕ) (n : ℕ). slice_range l n (n + size_kept kept col)) (blank.bytes col lt) none
+      ∙ take_all (0 + size_kept kept col - 0) block (omega (arith, blank.sizes col lt, length-blank packing law columns col lt))
+
+-- a column that is put in place of another
+module _ (old : List ColumnBlocks) (col : ℕ) (new : ColumnBlocks) (there : col < length old) where
+  put_other : {A : Type 0} (f : ColumnBlocks → A) (d : A) (other : ℕ) → other ≢ col → get_or (map f (set old col new)) other d ≡ get_or (map f old) other d
+  put_other {A = A} f d other not = ap (λ (l : List A). get_or l other d) (map-set f old col new) ∙ get_or-set_other (map f old) col other (f new) d not
+
+  put_same : {A : Type 0} (f : ColumnBlocks → A) (d : A) → get_or (map f (set old col new)) col d ≡ f new
+  put_same {A = A} f d = ap (λ (l : List A). get_or l col d) (map-set f old col new) ∙ get_or-set_same (map f old) col (f new) d (omega (arith, length-map old f, there))
+
+  pub block_of_other : (number other : ℕ) → other ≢ col → block_numbered (set old col new) number other ≡ block_numbered old number other
+  unfolding block_numbered
+  block_of_other number other not =
+      ap₂ (λ (stride size : ℕ). slice_range (bytes_kept (set old col new) other) (number * stride) (number * stride + size)) (put_other (λ (b : ColumnBlocks). b.stride) 0 other not) (put_other (λ (b : ColumnBlocks). b.size) 0 other not)
+      ∙ ap (λ (l : List ℕ). slice_range l (block_start old number other) (block_start old number other + size_kept old other)) (put_other items [] other not)
+
+  pub block_of_same : (number : ℕ) → block_numbered (set old col new) number col ≡ slice_range new.bytes.items (number * new.stride) (number * new.stride + new.size)
+  unfolding block_numbered
+  block_of_same number =
+      ap₂ (λ (stride size : ℕ). slice_range (bytes_kept (set old col new) col) (number * stride) (number * stride + size)) (put_same (λ (b : ColumnBlocks). b.stride) 0) (put_same (λ (b : ColumnBlocks). b.size) 0)
+      ∙ ap (λ (l : List ℕ). slice_range l (number * new.stride) (number * new.stride + new.size)) (put_same items [])
+
+  pub has_put : (packing : Packing) (columns : List Column) (count : ℕ) → HasBlocks packing columns count old → col < length columns → new.size ≡ block_size packing columns col → new.stride ≡ new.size
+      → length new.bytes.items ≡ count * new.size → HasBlocks packing columns count (set old col new)
+  has_put packing columns count keep lt size stride long = record {
+    all = length-set old col new ∙ keep.all;
+    sizes = λ other here. elim (cases_eq other col) [
+      | inl same ↦ rw same (put_same (λ (b : ColumnBlocks). b.size) 0 ∙ size)
+      | inr not ↦ put_other (λ (b : ColumnBlocks). b.size) 0 other not ∙ keep.sizes other here
+    ];
+    room = λ other here number below. elim (cases_eq other col) [
+      | inl same ↦ rw same (
+          let le = mul-le (number + 1) new.size count new.size (omega arith) (omega arith) in
+          let more : (number + 1) * new.size ≡ number * new.size + new.size = omega arith in
+          omega (arith, ap (λ n. number * n) (put_same (λ (b : ColumnBlocks). b.stride) 0 ∙ stride), ap length (put_same items []), size, long, le, more))
+      | inr not ↦ omega (arith, ap (λ n. number * n) (put_other (λ (b : ColumnBlocks). b.stride) 0 other not), ap length (put_other items [] other not), keep.room other here number below)
+    ];
+  }
+
+-- blocks that are back to back
+pub stored_has : (packing : Packing) (columns : List Column) (count : ℕ) (kept : List ColumnBlocks) → StoresBlocks packing columns count kept → HasBlocks packing columns count kept
+stored_has packing columns count kept keep = record {
+  all = keep.all;
+  sizes = keep.sizes;
+  room = λ col lt number there.
+      let size = block_size packing columns col in
+      let le = mul-le (number + 1) size count size (omega arith) (omega arith) in
+      let more : (number + 1) * size ≡ number * size + size = omega arith in
+      omega (arith, ap (λ n. number * n) (keep.strides col lt), keep.long col lt, le, more);
+}
 
 -- the segment of a number among this many
-module _ (packing : Packing) (columns : List Column) (count : ℕ) (kept : List ColumnBlocks) (keep : StoresBlocks packing columns count kept) (number : ℕ) (there : number < count) where
+module _ (packing : Packing) (columns : List Column) (count : ℕ) (kept : List ColumnBlocks) (keep : HasBlocks packing columns count kept) (number : ℕ) (there : number < count) where
   abbrev block : ℕ → List ℕ
   block = block_numbered kept number
 
   room : (col : ℕ) → col < length columns → block_start kept number col + size_kept kept col ≤ length (bytes_kept kept col)
-  room col lt =
-      let size = block_size packing columns col in
-      let le = mul-le (number + 1) size count size (omega arith) (omega arith) in
-      let more : (number + 1) * size ≡ number * size + size = omega arith in
-      omega (arith, ap (λ n. number * n) (keep.sizes col lt), keep.sizes col lt, keep.long col lt, le, more)
+  room col lt = omega (arith, keep.sizes col lt, keep.room col lt number there)
 
   length-block : (col : ℕ) → col < length columns → length (block col) ≡ block_size packing columns col
   unfolding block_numbered
@@ -127,17 +218,19 @@ module _ (packing : Packing) (columns : List Column) (count : ℕ) (kept : List 
 pub record HaveMore (old new : List ColumnBlocks) (block : ℕ → List ℕ) (count : ℕ) : Type 0 where
   pub all : length new ≡ length old
   pub sizes : (col : ℕ) → size_kept new col ≡ size_kept old col
+  pub strides : (col : ℕ) → stride_kept new col ≡ stride_kept old col
   pub more : (col : ℕ) → col < count → bytes_kept new col ≡ bytes_kept old col ++ block col
   pub rest : (col : ℕ) → count ≤ col → bytes_kept new col ≡ bytes_kept old col
 
 pub none_more : (kept : List ColumnBlocks) (block : ℕ → List ℕ) → HaveMore kept kept block 0
-none_more kept block = record { all = refl; sizes = λ col. refl; more = λ col lt. absurd (omega arith); rest = λ col le. refl }
+none_more kept block = record { all = refl; sizes = λ col. refl; strides = λ col. refl; more = λ col lt. absurd (omega arith); rest = λ col le. refl }
 
 pub one_more : (old now : List ColumnBlocks) (block : ℕ → List ℕ) (col : ℕ) (new d : ColumnBlocks) → HaveMore old now block col → col < length now
-    → new.size ≡ (get_or now col d).size → new.bytes.items ≡ (get_or now col d).bytes.items ++ block col → HaveMore old (set now col new) block (col + 1)
-one_more old now block col new d so_far there size bytes = record {
+    → new.size ≡ (get_or now col d).size → new.stride ≡ (get_or now col d).stride → new.bytes.items ≡ (get_or now col d).bytes.items ++ block col → HaveMore old (set now col new) block (col + 1)
+one_more old now block col new d so_far there size stride bytes = record {
   all = length-set now col new ∙ so_far.all;
   sizes = λ other. ap (λ (l : List ℕ). get_or l other 0) (map-set_same (λ (b : ColumnBlocks). b.size) now col new d size) ∙ so_far.sizes other;
+  strides = λ other. ap (λ (l : List ℕ). get_or l other 0) (map-set_same (λ (b : ColumnBlocks). b.stride) now col new d stride) ∙ so_far.strides other;
   more = λ other lt. elim (cases_lt other col) [
     | inl before ↦ untouched other (omega arith) ∙ so_far.more other before
     | inr not_before ↦
@@ -169,6 +262,7 @@ module _ (packing : Packing) (columns : List Column) (count : ℕ) (old new : Li
   keep_more = record {
     all = more.all ∙ keep.all;
     sizes = λ col lt. more.sizes col ∙ keep.sizes col lt;
+    strides = λ col lt. more.strides col ∙ keep.strides col lt;
     long = λ col lt.
         let size = block_size packing columns col in
         let next : (count + 1) * size ≡ count * size + size = omega arith in
@@ -176,7 +270,7 @@ module _ (packing : Packing) (columns : List Column) (count : ℕ) (old new : Li
   }
 
   start_is : (number col : ℕ) → col < length columns → block_start new number col ≡ number * block_size packing columns col
-  start_is number col lt = ap (λ n. number * n) (more.sizes col ∙ keep.sizes col lt)
+  start_is number col lt = ap (λ n. number * n) (more.strides col ∙ keep.strides col lt)
 
   cut_is : (number col : ℕ) → col < length columns
       → block_numbered new number col ≡ take (block_size packing columns col) (drop (number * block_size packing columns col) (bytes_kept old col ++ block_at packing columns col bytes))
@@ -192,7 +286,7 @@ module _ (packing : Packing) (columns : List Column) (count : ℕ) (old new : Li
   old_cut_is number col lt =
       let size = keep.sizes col lt in
       ap₂ (λ n l. take n l) {x = block_start old number col + size_kept old col - block_start old number col} {y = block_size packing columns col} (omega (arith, size))
-      (ap (λ n. drop (number * n) (bytes_kept old col)) size)
+      (ap (λ n. drop (number * n) (bytes_kept old col)) (keep.strides col lt))
 
   pub last_segment : segment_numbered new count ≡ bytes
   unfolding segment_numbered

@@ -1,5 +1,5 @@
 -- First bytes of blocks that are apart, if a block is added.
-use Rattle.std.proofs.Common.{◌≡◌, ◌∙◌, sym, ap, ℕ, ◌+◌, ◌-◌, ◌*◌, ◌≤◌, List, ◌++◌, Bool, true}
+use Rattle.std.proofs.Common.{◌≡◌, ◌∙◌, sym, ap, subst, ℕ, ◌+◌, ◌-◌, ◌*◌, ◌≤◌, List, ◌++◌, Bool, true}
 use Rattle.std.proofs.Common.{false, cond, length, take, drop, length-append, length-take, Option}
 use Rattle.std.proofs.Common.{Some, None, slice_range, replicate, inl, inr, arith}
 use Rattle.std.specs.Prelude.{IfSome}
@@ -29,18 +29,18 @@ nulls_in_front columns col block =
     ap (λ (l : List ℕ). cond (is_nullable columns col) (lanes_of_bytes l) (replicate group_size false)) (take_all 64 (take 64 block) (omega (arith, length-take 64 block)))
 
 -- those of the blocks before it stay
-pub fronts_kept : (size : ℕ) (bytes block fronts : List ℕ) → AreFronts size bytes fronts → AreFronts size (bytes ++ block) fronts
-fronts_kept size bytes block fronts are = λ number there.
+pub fronts_kept : (stride size : ℕ) (bytes block fronts : List ℕ) → AreFronts stride size bytes fronts → AreFronts stride size (bytes ++ block) fronts
+fronts_kept stride size bytes block fronts are = λ number there.
     let held = are number there in
-    (omega (arith, held.0, length-append bytes block), held.1 ∙ ap (take 64) (sym (piece_kept size (number * size) bytes block held.0)))
+    (omega (arith, held.0, length-append bytes block), held.1 ∙ ap (take 64) (sym (piece_kept size (number * stride) bytes block held.0)))
 
 -- and its own come after them
-pub fronts_more : (size : ℕ) (bytes block fronts : List ℕ) → AreFronts size bytes fronts → HasFronts size bytes fronts → length block ≡ size → 64 ≤ size
-    → AreFronts size (bytes ++ block) (fronts ++ take 64 block)
+pub fronts_more : (size : ℕ) (bytes block fronts : List ℕ) → AreFronts size size bytes fronts → HasFronts size bytes fronts → length block ≡ size → 64 ≤ size
+    → AreFronts size size (bytes ++ block) (fronts ++ take 64 block)
 fronts_more size bytes block fronts are has long room = λ number there. elim (cases_lt number has.0) [
   | inl before ↦
       let inside : 64 * number + 64 ≤ length fronts = omega (arith, has.1, before) in
-      let held = fronts_kept size bytes block fronts are number inside in
+      let held = fronts_kept size size bytes block fronts are number inside in
       (held.0, piece_kept 64 (64 * number) fronts (take 64 block) inside ∙ held.1)
   | inr not_before ↦
       let front : length (take 64 block) ≡ 64 = omega (arith, length-take 64 block, long, room) in
@@ -53,9 +53,15 @@ fronts_more size bytes block fronts are has long room = λ number there. elim (c
 ]
 
 -- whether they were put apart or not
-pub fronts_pushed : (size : ℕ) (bytes block fronts more new_bytes new_fronts : List ℕ) (ok : Bool) → AreFronts size bytes fronts → HasFronts size bytes fronts → length block ≡ size
-    → 64 ≤ size → more ≡ fronts → new_bytes ≡ bytes ++ block → new_fronts ≡ cond ok (more ++ take 64 block) more → AreFronts size new_bytes new_fronts
-fronts_pushed size bytes block fronts more new_bytes new_fronts true are has long room same added pushed =
+fronts_added : (size : ℕ) (bytes block fronts more new_bytes new_fronts : List ℕ) (ok : Bool) → AreFronts size size bytes fronts → HasFronts size bytes fronts → length block ≡ size
+    → 64 ≤ size → more ≡ fronts → new_bytes ≡ bytes ++ block → new_fronts ≡ cond ok (more ++ take 64 block) more → AreFronts size size new_bytes new_fronts
+fronts_added size bytes block fronts more new_bytes new_fronts true are has long room same added pushed =
     rw (added, pushed, same) (fronts_more size bytes block fronts are has long room)
-fronts_pushed size bytes block fronts more new_bytes new_fronts false are has long room same added pushed =
-    rw (added, pushed, same) (fronts_kept size bytes block fronts are)
+fronts_added size bytes block fronts more new_bytes new_fronts false are has long room same added pushed =
+    rw (added, pushed, same) (fronts_kept size size bytes block fronts are)
+
+pub fronts_pushed : (stride size : ℕ) (bytes block fronts more new_bytes new_fronts : List ℕ) (ok : Bool) → stride ≡ size → AreFronts stride size bytes fronts → HasFronts size bytes fronts
+    → length block ≡ size → 64 ≤ size → more ≡ fronts → new_bytes ≡ bytes ++ block → new_fronts ≡ cond ok (more ++ take 64 block) more → AreFronts stride size new_bytes new_fronts
+fronts_pushed stride size bytes block fronts more new_bytes new_fronts ok dense are has long room same added pushed =
+    subst (λ (n : ℕ). AreFronts n size new_bytes new_fronts) (sym dense)
+    (fronts_added size bytes block fronts more new_bytes new_fronts ok (subst (λ (n : ℕ). AreFronts n size bytes fronts) dense are) has long room same added pushed)

@@ -1,3 +1,4 @@
+pub mod BlankLemmas
 pub mod ByteLemmas
 pub mod CodeLemmas
 pub mod ColumnBlockLemmas

@@ -1,10 +1,10 @@
 //! Segments built from rows, column by column.
-ghost use Rattle.std.specs.Prelude.{◌≡◌, ◌++◌, List, length, take, IfOk, OnErr, OnOk, IsOkUnless};
+ghost use Rattle.std.specs.Prelude.{◌≡◌, ◌<◌, ◌++◌, List, if◌then◌else◌, length, map, take, IfOk, OnErr, OnOk, IsOkUnless};
 ghost use Rattle.bw_model.specs.Fault.{no_memory};
 ghost use Rattle.bw_model.specs.Row.{Value};
 ghost use Rattle.bw_segment.specs.Columns.{KeepRows};
-ghost use Rattle.bw_segment.specs.Meaning.{meaning_of, IsGroup};
-ghost use Rattle.bw_segment.specs.Packing.{segment_bytes};
+ghost use Rattle.bw_segment.specs.Meaning.{meaning_of, null_bits, stored_codes, IsGroup};
+ghost use Rattle.bw_segment.specs.Packing.{block_bytes, segment_bytes};
 ghost use Rattle.bw_segment.specs.Packed.{IsPlaced};
 
 use crate::columns::{ColumnCodes, columns_of};
@@ -94,8 +94,28 @@ fn blocks_of<L: CodeLayout>(
     let count = placement.schema.columns.len();
     let mut bytes = Vec::with_capacity(alloc, placement.start::<L>(count))?;
     for col in 0..count {
-        placement.push_nulls(&mut bytes, col, &kept[col].nulls)?;
-        L::push_codes(&mut bytes, placement.schema.width(col), &kept[col].codes)?;
+        push_block::<L>(&mut bytes, placement, col, &kept[col])?;
     }
     Ok(bytes)
+}
+
+/// Adds the block of a column of the rows that are stored by columns. Errors: 801 if memory is
+/// refused; a part may have been added then.
+pub(crate) fn push_block<L: CodeLayout>(
+    bytes: &mut Vec<u8>,
+    placement: &Placement,
+    col: usize,
+    kept: &ColumnCodes,
+) -> Result<(), Fault>
+    requires { col < length placement.now.schema.columns.items }
+    ensures added { OnOk result ((rows : List (List Value))
+        → kept.now.codes ≡ stored_codes placement.now.schema.columns.items rows col
+        → kept.now.nulls ≡ map (λ null. if null then 1 else 0) (null_bits rows col)
+        → bytes.new.items ≡ bytes.old.items
+        ++ block_bytes L.packing placement.now.schema.columns.items col rows) }
+    ensures only_oom { IsOkUnless result no_memory }
+{
+    placement.push_nulls(bytes, col, &kept.nulls)?;
+    L::push_codes(bytes, placement.schema.width(col), &kept.codes)?;
+    Ok(())
 }

@@ -24,7 +24,7 @@ impl ColumnCodes {
     ghost use Rattle.std.specs.Prelude.{◌≡◌, ◌<◌, replicate, slice_set, if◌then◌else◌};
 
     /// Returns a column of no rows.
-    fn empty() -> Self
+    pub(crate) fn empty() -> Self
         ensures codes { result.codes ≡ replicate 512 0 }
         ensures nulls { result.nulls ≡ replicate 512 0 }
     {

@@ -51,7 +51,7 @@ pub use extremes::Extreme;
 pub use group::is_group;
 pub use lanes::lanes_hold_codes;
 pub use layout::CodeLayout;
-pub use numbered_blocks::{NumberedBlocks, no_blocks, push_blocks};
+pub use numbered_blocks::{NumberedBlocks, blank_columns, no_blocks, push_blocks};
 pub use packed::PackedSegment;
 pub use packing::{blocks_are_added, bytes_of_a_group_are_sound, sound_bytes_spell_a_group};
 pub use placement::Placement;

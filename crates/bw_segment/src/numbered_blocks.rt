@@ -1,15 +1,18 @@
 //! The segments of a table whose blocks are stored by columns.
-ghost use Rattle.std.specs.Prelude.{◌≡◌, ◌+◌, ◌<◌, ◌≤◌, ℕ, length, IfOk, OnOk, IsOkUnless};
+ghost use Rattle.std.specs.Prelude.{◌≡◌, ◌+◌, ◌<◌, ◌≤◌, ℕ, [], length, IfOk, OnOk, IsOkUnless};
 ghost use Rattle.bw_io.specs.Shared.{bytes_in};
 ghost use Rattle.bw_model.specs.Fault.{no_memory};
 ghost use Rattle.bw_model.specs.Groups.{group_size};
 ghost use Rattle.bw_segment.specs.BlockFault.{IsSound};
-ghost use Rattle.bw_segment.specs.ColumnBlocks.{StoresBlocks, segment_numbered};
-ghost use Rattle.bw_segment.specs.Packing.{meaning_spelled};
+ghost use Rattle.bw_segment.specs.ColumnBlocks.{AreBlank, HasBlocks, StoresBlocks};
+ghost use Rattle.bw_segment.specs.ColumnBlocks.{segment_numbered};
+ghost use Rattle.bw_segment.specs.Packing.{block_bytes, block_size, meaning_spelled};
 ghost use Rattle.bw_segment.specs.Packed.{IsPlaced};
 
 use crate::blocks::Blocks;
+use crate::build::push_block;
 use crate::column_blocks::ColumnBlocks;
+use crate::columns::ColumnCodes;
 use crate::layout::CodeLayout;
 use crate::packed::PackedSegment;
 use crate::placement::Placement;
@@ -38,6 +41,44 @@ pub fn no_blocks<L: CodeLayout>(
         kept.push(ColumnBlocks::new(alloc, size, is_long))?;
     }
     Ok(kept)
+}
+
+/// Returns the columns of a table in which each row has the minimum of each column. Errors: 801 if
+/// memory is refused.
+pub fn blank_columns<L: CodeLayout>(
+    alloc: Global,
+    placement: &Placement,
+) -> Result<Vec<ColumnBlocks>, Fault>
+    ensures blank { IfOk result
+        (λ kept. AreBlank L.packing placement.now.schema.columns.items kept.items) }
+    ensures only_oom { IsOkUnless result no_memory }
+{
+    let mut kept = Vec::with_capacity(alloc, placement.schema.columns.len())?;
+    for col in 0..placement.schema.columns.len() {
+        kept.push(blank_blocks::<L>(alloc, placement, col)?)?;
+    }
+    Ok(kept)
+}
+
+/// Returns a column of which every segment has the block of no rows. In each row of a table it is the
+/// column's minimum. Errors: 801 if memory is refused.
+fn blank_blocks<L: CodeLayout>(
+    alloc: Global,
+    placement: &Placement,
+    col: usize,
+) -> Result<ColumnBlocks, Fault>
+    requires { col < length placement.now.schema.columns.items }
+    ensures size { IfOk result (λ blocks.
+        blocks.size ≡ block_size L.packing placement.now.schema.columns.items col) }
+    ensures stride { IfOk result (λ blocks. blocks.stride ≡ 0) }
+    ensures bytes { IfOk result (λ blocks.
+        blocks.bytes.items ≡ block_bytes L.packing placement.now.schema.columns.items col []) }
+    ensures only_oom { IsOkUnless result no_memory }
+{
+    L::keeps_codes();
+    let mut block = Vec::with_capacity(alloc, PackedSegment::<L>::block_size(placement, col))?;
+    push_block::<L>(&mut block, placement, col, &ColumnCodes::empty())?;
+    Ok(ColumnBlocks::repeated(alloc, block))
 }
 
 /// Adds the blocks of a segment, each to its column, after those of earlier segments. Errors: 801
@@ -84,7 +125,7 @@ impl Blocks for NumberedBlocks<'_> {
     fn block(&self, col: usize, _start: usize, _end: usize) -> &[u8] {
         let column = &self.columns[col];
         let bytes: &[u8] = &column.bytes;
-        let start = self.number * column.size;
+        let start = self.number * column.stride;
         &bytes[start..start + column.size]
     }
 
@@ -107,7 +148,7 @@ impl<'a, L: CodeLayout> PackedSegment<L, NumberedBlocks<'a>> {
         requires nonempty { 1 ≤ rows }
         requires within_limit { rows ≤ group_size }
         requires kept { (count : ℕ) × (number < count)
-            × StoresBlocks L.packing placement.value.schema.columns.items count columns.now }
+            × HasBlocks L.packing placement.value.schema.columns.items count columns.now }
         requires sound { IsSound L.packing placement.value.schema.columns.items rows
             (segment_numbered columns.now number) }
         ensures means { ⟦<PackedSegment<L, NumberedBlocks<'a>> as Segment>⟧.meaning result

@@ -12,7 +12,7 @@ from .._csv.file import Source
 from .._errors import Refused, shown
 from .._identifiers import option
 from .._types.base import Kind
-from .._types.kinds import Styled, undressed
+from .._types.kinds import Styled, unstyled
 from .._types.number_format import DEFAULT, Style
 from .._types.numbers import Floats, Ranked
 from .fields import Fields
@@ -88,7 +88,7 @@ class Decision:
         """Returns by how much the number of a field that isn't null changes, if it does."""
         if self.rounding:
             return self.rounding.change(text)
-        if self.kind is None or not isinstance(undressed(self.kind), (Floats, Ranked)):
+        if self.kind is None or not isinstance(unstyled(self.kind), (Floats, Ranked)):
             return None
         style = self.kind.style if isinstance(self.kind, Styled) else DEFAULT
         return change_in_double(style.bare(text) or "0")
@@ -105,7 +105,7 @@ class Ambiguity:
     may_be_null: bool = False
 
 
-Verdict = Union[Decision, Ambiguity]
+Outcome = Union[Decision, Ambiguity]
 
 
 # What a detector of columns does.
@@ -134,7 +134,7 @@ class Detector(Protocol):
     def signs(self, column: Fields) -> set[str]:
         """Returns the decimal signs that a column shows, all of whose texts are like its own."""
 
-    def decide(self, column: Fields, signs: set[str]) -> Verdict:
+    def decide(self, column: Fields, signs: set[str]) -> Outcome:
         """Returns what a column becomes, all of whose texts are like its own. `signs` are the
         decimal signs of the file."""
 
@@ -185,7 +185,7 @@ def refuse_all(source: Source, asked: Sequence[Asked]) -> NoReturn:
         texts = [f"{shown(text)} in line {found[text]}" if text in found else shown(text)
                  for text in ordered]
         what, heading = PLACE.sub(lambda place: texts[int(place[1])],
-                                  ambiguity.what), column.wishes.heading
+                                  ambiguity.what), column.options.heading
         nulls = (" ".join(option("--null", f"{heading}={text}") for text in ordered),
                  ) if ambiguity.may_be_null else ()
         use = ', or '.join((*nulls, *ambiguity.options))

@@ -17,7 +17,7 @@ from .._types.number_format import (CODE, LAKHS, PHONE, SIMPLE, STARTS, WHOLE, Z
 from .._types.numbers import TRUTHS, TRUTH_OF, Decimals, Floats, Truths
 from .._types.temporal import (CLOCK_LINES, DATE_LINES, DATE_STARTS, ISO_DATE, MOST_DIGITS, Clocks,
                                DateFormat, Dates, Moment, Times, format_of, moment_of, read_moment)
-from .ambiguity import (SHORT, Ambiguity, Decision, Rounding, Verdict, change_in_double, matching,
+from .ambiguity import (SHORT, Ambiguity, Decision, Rounding, Outcome, change_in_double, matching,
                         starting)
 from .fields import MOST_PLACES, Fields, Spans
 
@@ -103,12 +103,12 @@ class ClockDetector:
     def signs(self, column: Fields) -> set[str]:
         return set()
 
-    def decide(self, column: Fields, signs: set[str]) -> Verdict:
+    def decide(self, column: Fields, signs: set[str]) -> Outcome:
         found = spellings(column)
         clock = found.clock()
         if isinstance(clock, tuple):
             return Ambiguity("{0} and {1} are times of different forms", clock,
-                             (option("--text", column.wishes.heading),))
+                             (option("--text", column.options.heading),))
         return Decision(Clocks(clock, found.digits))
 
 
@@ -133,8 +133,8 @@ class DateDetector:
     def signs(self, column: Fields) -> set[str]:
         return set()
 
-    def decide(self, column: Fields, signs: set[str]) -> Verdict:
-        found, heading = spellings(column), column.wishes.heading
+    def decide(self, column: Fields, signs: set[str]) -> Outcome:
+        found, heading = spellings(column), column.options.heading
         keep = (option("--text", heading),)
         for texts in (found.forms.values(), found.zones.values()):
             if len(texts) > 1:
@@ -171,7 +171,7 @@ def is_same(formats: Sequence[str]) -> bool:
     return len({form.replace("%B", "%b") for form in formats}) == 1
 
 
-def decided(column: Fields, found: Spellings, form: str, clock: str) -> Verdict:
+def decided(column: Fields, found: Spellings, form: str, clock: str) -> Outcome:
     if not clock:
         return Decision(Dates(form))
     between = next(iter(found.betweens)) if len(found.betweens) == 1 else "T"
@@ -179,7 +179,7 @@ def decided(column: Fields, found: Spellings, form: str, clock: str) -> Verdict:
     return kind_that_fits(column, kind)
 
 
-def kind_that_fits(column: Fields, kind: Times) -> Verdict:
+def kind_that_fits(column: Fields, kind: Times) -> Outcome:
     """Returns the kind of times, or what to do about times that are too far apart for 64 bits in
     their digits."""
     if kind.digits < 8:
@@ -190,7 +190,7 @@ def kind_that_fits(column: Fields, kind: Times) -> Verdict:
         ends += [number for number in map(kind.number, texts) if number is not None]
     if min(ends) < LEAST or max(ends) > GREATEST or max(ends) - min(ends) > GREATEST:
         return Ambiguity("its times have too many digits for 64 bits", (),
-                         (option("--text", column.wishes.heading),))
+                         (option("--text", column.options.heading),))
     return Decision(kind)
 
 
@@ -210,7 +210,7 @@ class TruthDetector:
     def signs(self, column: Fields) -> set[str]:
         return set()
 
-    def decide(self, column: Fields, signs: set[str]) -> Verdict:
+    def decide(self, column: Fields, signs: set[str]) -> Outcome:
         spelled = {TRUTH_OF[text][1] for texts in column.bare() for text in texts}
         return Decision(Truths(*(next(iter(spelled)) if len(spelled) == 1 else TRUTHS[0])))
 
@@ -350,24 +350,24 @@ class NumberDetector:
     def signs(self, column: Fields) -> set[str]:
         return {self.surveyed(column).decimal() or ""} - {""}
 
-    def decide(self, column: Fields, signs: set[str]) -> Verdict:
-        survey, wishes = self.surveyed(column), column.wishes
+    def decide(self, column: Fields, signs: set[str]) -> Outcome:
+        survey, options = self.surveyed(column), column.options
         conflict = survey.conflict()
         if conflict:
             return Ambiguity("{0} and {1} are numbers with different signs", conflict,
-                             (option("--text", wishes.heading),))
-        if survey.zeros and not wishes.is_number:
-            return with_zeros(survey, wishes.heading)
-        is_wanted = wishes.is_number or wishes.digits is not None
+                             (option("--text", options.heading),))
+        if survey.zeros and not options.is_number:
+            return with_zeros(survey, options.heading)
+        is_wanted = options.is_number or options.digits is not None
         if survey.phone and not is_wanted and not has_minus(column):
-            drop = option("--number", wishes.heading)
+            drop = option("--number", options.heading)
             return Decision(None, f"{shown(survey.phone)} and others have a leading +, which "
                                   f"{drop} drops")
         is_either = survey.code and not survey.no_code and are_whole(column)
         # if spellings are kept, it becomes a text in any case
-        if is_either and not is_wanted and not wishes.rules.keeps_spelling:
+        if is_either and not is_wanted and not options.rules.keeps_spelling:
             return Ambiguity("{0} may be a code, or a number with a power of ten", (survey.code,),
-                             both(wishes.heading))
+                             both(options.heading))
         sign = self.decimal_sign(column, signs)
         if isinstance(sign, Ambiguity):
             return sign
@@ -375,23 +375,23 @@ class NumberDetector:
 
     def decimal_sign(self, column: Fields, signs: set[str]) -> Union[str, Ambiguity]:
         """Returns the decimal sign of the column, or why it can't be decided."""
-        survey, wishes = self.surveyed(column), column.wishes
-        own, heading = survey.decimal(), wishes.heading
-        thousands = wishes.rules.thousands
+        survey, options = self.surveyed(column), column.options
+        own, heading = survey.decimal(), options.heading
+        thousands = options.rules.thousands
         if own and own == thousands:
             return Ambiguity(f"{{0}} has {thousands} before other than three digits",
                              (survey.decimals.get(own, survey.first),),
                              (option("--text", heading),))
         if thousands and thousands in survey.eithers and len(survey.eithers) == 1:
             return "," if thousands == "." else "."
-        is_separator = wishes.rules.separator == "," and not wishes.is_number
+        is_separator = options.rules.separator == "," and not options.is_number
         if own == "," and is_separator and not survey.groupings:
             return Ambiguity("{0} has a comma, which separates the fields", (survey.decimals[","],),
                              both(heading))
         if own or not survey.eithers:
             return own or "."
         (mark, text), = survey.eithers.items()
-        if wishes.is_number:
+        if options.is_number:
             return mark
         if len(signs) == 1:
             return next(iter(signs))
@@ -430,37 +430,37 @@ def with_zeros(survey: Survey, heading: str) -> Decision:
     return Decision(None, why, "" if len(survey.lengths) == 1 else "numbers")
 
 
-def in_style(column: Fields, style: Style) -> Verdict:
+def in_style(column: Fields, style: Style) -> Outcome:
     """Returns what a column of numbers in one style becomes."""
-    wishes = column.wishes
-    if wishes.digits is not None:
-        return rounded(column, style, wishes.digits)
+    options = column.options
+    if options.digits is not None:
+        return rounded(column, style, options.digits)
     spans = spans_of(column, style)
     number: Numbers
     if not spans.is_float and spans.fits():
         digits = spans.digits
         number = Decimals(digits,
                           int(len(spans.lengths) > 1 and not spans.has_zero)) if digits else Whole()
-    elif not spans.is_float and not spans.digits and not wishes.is_number:
-        rounds = option('--number', wishes.heading)
+    elif not spans.is_float and not spans.digits and not options.is_number:
+        rounds = option('--number', options.heading)
         why = f"numbers of more than 64 bits, which {rounds} rounds to the nearest doubles"
         return Decision(None, why, "numbers")
     else:
         text = too_large(column, style)
         if text is not None:
             return Ambiguity("{0} is too large for a double", (text,),
-                             (option("--null", f"{wishes.heading}={text}"),
-                              option("--text", wishes.heading)))
-        text = None if wishes.is_number else no_double(column, style)
+                             (option("--null", f"{options.heading}={text}"),
+                              option("--text", options.heading)))
+        text = None if options.is_number else no_double(column, style)
         if text is not None:
             near = f"{float(style.bare(text) or 0):.0f}"
             return Ambiguity(f"{{0}} is no double: the nearest is {near}", (text,),
-                             (*digits_for(column, style), option("--text", wishes.heading)))
+                             (*digits_for(column, style), option("--text", options.heading)))
         number = Floats(0)
-    return Decision(dressed(number, style))
+    return Decision(styled(number, style))
 
 
-def dressed(number: Numbers, style: Style) -> Kind:
+def styled(number: Numbers, style: Style) -> Kind:
     return number if style == Style() else Styled(number, style)
 
 
@@ -477,7 +477,7 @@ def spans_of(column: Fields, style: Style) -> Spans:
     return spans
 
 
-def rounded(column: Fields, style: Style, digits: int) -> Verdict:
+def rounded(column: Fields, style: Style, digits: int) -> Outcome:
     """Returns what becomes of numbers that are rounded to some digits."""
     rounding = Rounding(style, digits)
     numbers = [rounding.number(text) for texts in column.bare() for text in texts]
@@ -485,10 +485,10 @@ def rounded(column: Fields, style: Style, digits: int) -> Verdict:
     least, greatest = min(present, default=0), max(present, default=0)
     if least < LEAST or greatest > GREATEST or greatest - least > GREATEST:
         return Ambiguity(f"its numbers don't fit 64 bits with {digits} digits after the point", (),
-                         (option("--digits", f"{column.wishes.heading}=N") + " with fewer",
-                          option("--text", column.wishes.heading)))
+                         (option("--digits", f"{column.options.heading}=N") + " with fewer",
+                          option("--text", column.options.heading)))
     number: Numbers = Decimals(digits, 0) if digits else Whole()
-    return Decision(dressed(number, style), rounding=rounding)
+    return Decision(styled(number, style), rounding=rounding)
 
 
 def no_double(column: Fields, style: Style) -> Optional[str]:
@@ -506,7 +506,7 @@ def no_double(column: Fields, style: Style) -> Optional[str]:
 def digits_for(column: Fields, style: Style) -> tuple[str, ...]:
     """Returns the option that gives numbers as many digits as they have, or rounds them to doubles
     if so many don't fit 64 bits."""
-    needed, most, heading = 0, 0, column.wishes.heading
+    needed, most, heading = 0, 0, column.options.heading
     for texts in column.bare():
         for number in (decimal.Decimal(style.bare(text) or 0) for text in texts):
             needed = max(needed, -int(number.as_tuple().exponent))
@@ -547,7 +547,7 @@ class WantedDetector:
     def signs(self, column: Fields) -> set[str]:
         return set()
 
-    def decide(self, column: Fields, signs: set[str]) -> Verdict:
+    def decide(self, column: Fields, signs: set[str]) -> Outcome:
         form = format_of(self.form)
         digits = 0
         if form.has_part:
@@ -644,7 +644,7 @@ class Likeness:
     def signs(self, column: Fields) -> set[str]:
         return set()
 
-    def decide(self, column: Fields, signs: set[str]) -> Verdict:
+    def decide(self, column: Fields, signs: set[str]) -> Outcome:
         return Decision(None)
 
 

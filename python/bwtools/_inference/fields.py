@@ -373,7 +373,7 @@ class Fields:
     """What is known of the fields of a column: what is asked for it, its distinct fields, of which
     a column of numbers has none, what is known of those that are kept as numbers, and how many rows
     have each word for null, whatever the column is."""
-    wishes: ColumnOptions
+    options: ColumnOptions
     plain: Plain
     rows: int
     dictionary: Optional[Dictionary] = None
@@ -432,18 +432,18 @@ class Fields:
             draw = random.Random(0)
             texts = self.bare_of(draw.sample(own, DRAWN))
             rows = self.bare_of(draw.choices(own, list(counts), k=DRAWN))
-        return Run(self.dictionary, parts, {*self.wishes.words} & {*self.words}, texts, rows)
+        return Run(self.dictionary, parts, {*self.options.words} & {*self.words}, texts, rows)
 
     def bare_of(self, fields: Sequence[bytes]) -> list[str]:
         """Returns the bare texts of fields."""
-        words = set(self.wishes.words)
+        words = set(self.options.words)
         texts = (field.decode().strip(BLANKS) for field in fields)
         return [text for text in texts if text not in words]
 
     @functools.cached_property
     def sought(self) -> dict[str, bytes]:
         """The words that may be null, and their bytes."""
-        return {word: word.encode() for word in (*self.wishes.words, *NULLS)}
+        return {word: word.encode() for word in (*self.options.words, *NULLS)}
 
     def texts(self, part: Part) -> list[str]:
         """Returns the texts of a part as they are."""
@@ -481,4 +481,4 @@ class Fields:
     @property
     def filled(self) -> int:
         """How many rows have a field that is no word for null."""
-        return self.rows - sum(self.words.get(word, 0) for word in self.wishes.words)
+        return self.rows - sum(self.words.get(word, 0) for word in self.options.words)

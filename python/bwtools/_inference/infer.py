@@ -1,4 +1,4 @@
-"""Chooses the kind of a column by the votes of its detectors."""
+"""Chooses the kind of a column by its detectors."""
 from __future__ import annotations
 
 import itertools
@@ -18,7 +18,7 @@ from .._types.dictionary import SortedList, TextBlocks, Texts
 from .._types.number_format import Style, is_number
 from .._types.numbers import Floats, Ranked, bits_of
 from .._types.temporal import ISO_DATE, Times, is_like_date
-from .ambiguity import Ambiguity, Asked, Decision, Detector, Verdict, refuse
+from .ambiguity import Ambiguity, Asked, Decision, Detector, Outcome, refuse
 from .detectors import (LIKENESSES, ClockDetector, DateDetector, NumberDetector, TruthDetector,
                         WantedDetector)
 from .fields import Fields, Numbered, Run, values_of
@@ -114,7 +114,7 @@ class Sorted:
 def text_ambiguity(column: Fields) -> Optional[Ambiguity]:
     """Returns what must be asked about blanks in a column of texts: whether texts that differ only
     in them are the same."""
-    rules = column.wishes.rules
+    rules = column.options.rules
     if rules.keeps_blanks or rules.drops_blanks or not column.have_blanks:
         return None
     padded = {text.strip(BLANKS): text for part, texts in column.each() if part.has_blanks
@@ -130,17 +130,17 @@ def text_ambiguity(column: Fields) -> Optional[Ambiguity]:
 
 def blanks_options(column: Fields) -> tuple[str, ...]:
     """Returns the options that say what becomes of the blanks of a column."""
-    heading = column.wishes.heading
+    heading = column.options.heading
     return tuple(shlex.quote(f"--{what}-blanks={heading}") for what in ("drop", "keep"))
 
 
 def sorted_texts(column: Fields) -> Sorted:
     """Returns the sorted texts of a column of codes."""
-    if column.have_blanks and not column.wishes.rules.keeps_blanks:
+    if column.have_blanks and not column.options.rules.keeps_blanks:
         return without_blanks(column)
     assert column.dictionary is not None
     dictionary = column.dictionary
-    found = [dictionary.find(word.encode()) for word in column.wishes.nulls
+    found = [dictionary.find(word.encode()) for word in column.options.nulls
              if word in column.words]
     # a word may only be there with blanks around it, which are kept
     nulls = sorted(place for place in found if place is not None)
@@ -176,7 +176,7 @@ def places_beside(nulls: Sequence[int], count: int) -> array[int]:
 def without_blanks(column: Fields) -> Sorted:
     """Returns the sorted texts of a column whose texts lose their blanks."""
     bare = [text.strip(BLANKS) for _, texts in column.each() for text in texts]
-    listed = sorted(set(bare).difference(column.wishes.nulls))
+    listed = sorted(set(bare).difference(column.options.nulls))
     places = dict(zip(listed, range(len(listed))))
     encoded = list(map(str.encode, listed))
     return Sorted(Texts(TextBlocks(len(listed), lambda: [encoded])),
@@ -191,10 +191,10 @@ MOST_WORDS = 3
 
 
 @dataclass
-class Opinion:
-    """What one detector thinks of a column: how many of its distinct texts are like its own, how
-    many rows have these, and the first others, of which there may be more. Runs of which few texts
-    can be like its own are left."""
+class Candidate:
+    """A detector as a candidate for a column: how many distinct texts are like its own, how many
+    rows have these, and the first others, of which there may be more. Runs of which few texts can
+    be like its own are left."""
     detector: Detector
     likes: int = 0
     rows: int = 0
@@ -225,97 +225,97 @@ class Opinion:
         return True
 
 
-def others_of(column: Fields, opinion: Opinion) -> list[str]:
+def others_of(column: Fields, candidate: Candidate) -> list[str]:
     """Returns the first texts that aren't like a detector's own, one more than may be refused."""
-    found = dict(opinion.others)
-    foreign = column.plain.forms - set(opinion.detector.forms)
+    found = dict(candidate.others)
+    foreign = column.plain.forms - set(candidate.detector.forms)
     for part in column.parts if foreign else ():
         if len(found) > MOST_WORDS:
             break
         if part.kept and part.kept.form in foreign:
             bare = (text.strip(BLANKS) for text in column.texts(part))
             found.update(dict.fromkeys(itertools.islice(
-                (text for text in bare if text not in column.wishes.words), MOST_WORDS + 1)))
+                (text for text in bare if text not in column.options.words), MOST_WORDS + 1)))
     return list(found)[:MOST_WORDS + 1]
 
 
-def count_fields(column: Fields, opinion: Opinion) -> tuple[int, int]:
+def count_fields(column: Fields, candidate: Candidate) -> tuple[int, int]:
     """Returns how many fields are like a detector's own, and how many there are, without nulls."""
-    return opinion.rows + column.count_rows(opinion.detector.forms), column.filled
+    return candidate.rows + column.count_rows(candidate.detector.forms), column.filled
 
 
 class Inference:
-    """The detectors of a column, asked in order, and what they think of it."""
+    """The candidates for a column, in order."""
 
     def __init__(self, column: Fields) -> None:
-        self.column, wishes = column, column.wishes
+        self.column, options = column, column.options
         detectors: Iterable[Detector] = (TruthDetector(), NumberDetector(), DateDetector(),
                                          ClockDetector())
-        is_asked = wishes.form is not None or wishes.is_number or wishes.digits is not None
-        if wishes.form is not None:
-            detectors = (WantedDetector(wishes.form),)
+        is_asked = options.form is not None or options.is_number or options.digits is not None
+        if options.form is not None:
+            detectors = (WantedDetector(options.form),)
         elif is_asked:
             detectors = (NumberDetector(),)
-        self.opinions = [] if wishes.is_text else list(map(Opinion, detectors))
+        self.candidates = [] if options.is_text else list(map(Candidate, detectors))
         self.count = 0
         may_leave = not is_asked and not column.plain.forms
         for number, run in enumerate(column.runs):
             self.count += run.size
-            for opinion in self.opinions:
-                if not may_leave or not opinion.leaves(number, run):
-                    opinion.add(run)
+            for candidate in self.candidates:
+                if not may_leave or not candidate.leaves(number, run):
+                    candidate.add(run)
         # if other runs have some, all are counted
-        late = [opinion for opinion in self.opinions if opinion.left and opinion.likes]
+        late = [candidate for candidate in self.candidates if candidate.left and candidate.likes]
         for number, run in enumerate(column.runs if late else ()):
-            for opinion in late:
-                if number in opinion.left:
-                    opinion.add(run)
+            for candidate in late:
+                if number in candidate.left:
+                    candidate.add(run)
 
     def winner(self) -> Optional[Detector]:
         """Returns the first detector to whom all fields are like its own, if there are any."""
         forms = self.column.plain.forms
-        for opinion in self.opinions:
-            is_own = forms <= set(opinion.detector.forms) and bool(opinion.likes or forms)
-            if not opinion.others and is_own:
-                return opinion.detector
+        for candidate in self.candidates:
+            is_own = forms <= set(candidate.detector.forms) and bool(candidate.likes or forms)
+            if not candidate.others and is_own:
+                return candidate.detector
         return None
 
-    def verdict(self, signs: set[str]) -> Verdict:
+    def outcome(self, signs: set[str]) -> Outcome:
         """Returns what the column becomes."""
-        wishes, winner = self.column.wishes, self.winner()
+        options, winner = self.column.options, self.winner()
         if winner:
             return winner.decide(self.column, signs)
         if not self.count and not self.column.plain.forms:
             return nothing(self.column)
-        if wishes.is_text:
+        if options.is_text:
             return Decision(None, "by --text")
-        if wishes.form is not None or wishes.is_number or wishes.digits is not None:
+        if options.form is not None or options.is_number or options.digits is not None:
             return self.asked_for()
         return self.mostly() or self.looking() or Decision(None)
 
     def asked_for(self) -> Ambiguity:
         """Returns why a column isn't what an option says."""
-        opinion, = self.opinions
-        wishes, words = self.column.wishes, others_of(self.column, opinion)[:MOST_WORDS]
-        name = "--number" if wishes.is_number else "--digits"
-        name = "--date" if wishes.form is not None else name
-        what = {"--date": f"a date in the format {wishes.form}"}.get(name, "a number")
+        candidate, = self.candidates
+        options, words = self.column.options, others_of(self.column, candidate)[:MOST_WORDS]
+        name = "--number" if options.is_number else "--digits"
+        name = "--date" if options.form is not None else name
+        what = {"--date": f"a date in the format {options.form}"}.get(name, "a number")
         return Ambiguity(f"{listed(len(words))} {verb(len(words))} {what}, as {name} states",
                          tuple(words), (), True)
 
-    def mostly(self) -> Optional[Verdict]:
+    def mostly(self) -> Optional[Outcome]:
         """Returns what becomes of a column that is mostly of one kind, if it is."""
-        shared = [opinion for opinion in self.opinions if opinion.detector.is_shared and
-                  (opinion.likes or self.column.plain.forms & set(opinion.detector.forms))]
-        shares = [(*count_fields(self.column, opinion), opinion) for opinion in shared]
-        for likes, count, opinion in sorted(shares, key=lambda share: -share[0]):
-            if likes * 2 < count and (opinion.likes * 2 <= self.count or self.column.plain.forms):
+        shared = [candidate for candidate in self.candidates if candidate.detector.is_shared and
+                  (candidate.likes or self.column.plain.forms & set(candidate.detector.forms))]
+        shares = [(*count_fields(self.column, candidate), candidate) for candidate in shared]
+        for likes, count, candidate in sorted(shares, key=lambda share: -share[0]):
+            if likes * 2 < count and (candidate.likes * 2 <= self.count or self.column.plain.forms):
                 continue
-            words, heading = others_of(self.column, opinion), self.column.wishes.heading
+            words, heading = others_of(self.column, candidate), self.column.options.heading
             # half of the fields don't show what the others should be, but these have no order
             if len(words) <= MOST_WORDS and likes * 2 != count:
-                return few_words(opinion.detector, words, likes, count, heading)
-            plural = opinion.detector.plural
+                return few_words(candidate.detector, words, likes, count, heading)
+            plural = candidate.detector.plural
             why = f"{likes:,} of {counted(count, 'field')} look like {plural}"
             return Decision(None, why, plural)
         return None
@@ -324,13 +324,13 @@ class Inference:
         """Returns what becomes of a column of texts most of which look like something that no
         detector reads, if they do."""
         column = self.column
-        opinions = list(map(Opinion, LIKENESSES))
+        candidates = list(map(Candidate, LIKENESSES))
         for run in column.runs:
-            for opinion in opinions:
-                opinion.add(run)
-        for each, opinion in zip(LIKENESSES, opinions):
-            likes, count = count_fields(column, opinion) if opinion.likes else (0, 0)
-            are_most = opinion.likes * 2 > self.count and not column.plain.forms
+            for candidate in candidates:
+                candidate.add(run)
+        for each, candidate in zip(LIKENESSES, candidates):
+            likes, count = count_fields(column, candidate) if candidate.likes else (0, 0)
+            are_most = candidate.likes * 2 > self.count and not column.plain.forms
             if (are_most or likes * 2 > count) and not each.has_order(itertools.chain.from_iterable(
                     column.bare())):
                 why = f"{likes:,} of {counted(count, 'field')} look like {each.plural}"
@@ -360,14 +360,14 @@ def verb(count: int) -> str:
 def nothing(column: Fields) -> Decision:
     """Returns what becomes of a column of nulls alone, or of words that are null only in other
     columns."""
-    words = [word for word in words_of(column) if word not in column.wishes.nulls]
+    words = [word for word in words_of(column) if word not in column.options.nulls]
     return Decision(None,
                     f"only {shown(words[0])} and similar words") if words else Decision(Nulls())
 
 
 def words_of(column: Fields) -> list[str]:
     """Returns the words for null that occur in a column."""
-    return [word for word in column.wishes.words if word in column.words]
+    return [word for word in column.options.words if word in column.words]
 
 
 # Decides what each column of a file becomes. What can't be decided is refused, for all columns at
@@ -381,22 +381,22 @@ def decide(source: Source, columns: list[Fields], may_be_row: bool) -> list[Deci
     winners = [inference.winner() for inference in inferences]
     signs = {sign for winner,
              column in zip(winners, columns) if winner for sign in winner.signs(column)}
-    verdicts = [decided(source, inference, signs) for inference in inferences]
+    outcomes = [decided(source, inference, signs) for inference in inferences]
     # the options that ambiguities name have headings
     if may_be_row and source.has_heading:
-        refuse_heading(source, columns, verdicts)
-    decisions = [each for each in verdicts if isinstance(each, Decision)]
-    refuse(source, [Asked(place, column, verdict) for place, (column, verdict) in
-                    enumerate(zip(columns, verdicts)) if isinstance(verdict, Ambiguity)])
+        refuse_heading(source, columns, outcomes)
+    decisions = [each for each in outcomes if isinstance(each, Decision)]
+    refuse(source, [Asked(place, column, outcome) for place, (column, outcome) in
+                    enumerate(zip(columns, outcomes)) if isinstance(outcome, Ambiguity)])
     return settle_floats(columns, decisions)
 
 
-def decided(source: Source, inference: Inference, signs: set[str]) -> Verdict:
+def decided(source: Source, inference: Inference, signs: set[str]) -> Outcome:
     """Returns what a column becomes, or what must be asked about it."""
-    verdict = inference.verdict(signs)
-    if isinstance(verdict, Ambiguity):
-        return verdict
-    decision = exact(inference.column, verdict)
+    outcome = inference.outcome(signs)
+    if isinstance(outcome, Ambiguity):
+        return outcome
+    decision = exact(inference.column, outcome)
     return ambiguity_of(source, inference.column, decision) or decision
 
 
@@ -411,7 +411,7 @@ def ambiguity_of(source: Source, column: Fields, decision: Decision) -> Optional
 def table_ambiguity(source: Source, column: Fields) -> Optional[Ambiguity]:
     """Returns what must be asked about the only column of a file, if it may be a table with another
     separator: its texts have the same number of one."""
-    if not source.text.is_guessed or len(source.headings) > 1 or column.wishes.is_text or \
+    if not source.text.is_guessed or len(source.headings) > 1 or column.options.is_text or \
             column.plain.forms:
         return None
     heading = source.headings[0] if source.has_heading else None
@@ -426,7 +426,7 @@ def table_ambiguity(source: Source, column: Fields) -> Optional[Ambiguity]:
             return Ambiguity(f"all its rows have {what}" if column.rows else
                              f"the only line has {what}", (),
                              (dialect.separator_option(sign),
-                              option("--text", column.wishes.heading)))
+                              option("--text", column.options.heading)))
     return None
 
 
@@ -445,7 +445,7 @@ def count_in_all(column: Fields, sign: str) -> int:
 def exact(column: Fields, decision: Decision) -> Decision:
     """Returns a decision, or that for texts if --keep-spelling asks for fields that come back
     exactly, and one wouldn't."""
-    if not column.wishes.rules.keeps_spelling or decision.kind is None:
+    if not column.options.rules.keeps_spelling or decision.kind is None:
         return decision
     kind, plain = decision.kind, column.plain
     lengths = plain.spans.lengths
@@ -461,8 +461,8 @@ def is_changed(kind: Kind, column: Fields, text: str) -> bool:
     """Returns whether a field comes back as another one. One that is null comes back as nothing,
     which the report says of words."""
     bare = text.strip(BLANKS)
-    if bare in column.wishes.words:
-        return not bare and bool(text) and column.wishes.rules.keeps_blanks
+    if bare in column.options.words:
+        return not bare and bool(text) and column.options.rules.keeps_blanks
     return kind.text(kind.number(bare) or 0) != text
 
 
@@ -473,24 +473,24 @@ def restores(kind: Kind, shape: tuple[str, bool, int, str]) -> bool:
     return isinstance(kind, Times) and (kind.form, kind.digits, kind.zone) == (form, digits, zone)
 
 
-def refuse_heading(source: Source, columns: Sequence[Fields], verdicts: Sequence[Verdict]) -> None:
+def refuse_heading(source: Source, columns: Sequence[Fields], outcomes: Sequence[Outcome]) -> None:
     """Rejects a first line that looks like the rows below it."""
-    for column, verdict in zip(columns, verdicts):
-        heading = column.wishes.heading
+    for column, outcome in zip(columns, outcomes):
+        heading = column.options.heading
         detectors: list[Detector] = [DateDetector(), NumberDetector(), ClockDetector(),
                                      TruthDetector()]
-        if column.wishes.form is not None:
-            detectors = [WantedDetector(column.wishes.form)]
-        if any(detector.like([heading]) and is_all_like(detector, column, verdict)
+        if column.options.form is not None:
+            detectors = [WantedDetector(column.options.form)]
+        if any(detector.like([heading]) and is_all_like(detector, column, outcome)
                for detector in detectors):
             raise Refused(f"{source.path}: the first line has {shown(heading)} above a column of "
                           "such fields: "
                           "use --no-heading if it is a row, or --heading if it is a heading")
 
 
-def is_all_like(detector: Detector, column: Fields, verdict: Verdict) -> bool:
+def is_all_like(detector: Detector, column: Fields, outcome: Outcome) -> bool:
     """Returns whether all fields of a column are like a detector's own."""
-    if isinstance(verdict, Decision) and isinstance(verdict.kind, Nulls):
+    if isinstance(outcome, Decision) and isinstance(outcome.kind, Nulls):
         return True
     found = [(len(texts), len(detector.like(texts))) for texts in column.bare()]
     return column.plain.forms <= set(detector.forms) and all(count == likes for count,

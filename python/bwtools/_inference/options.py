@@ -211,7 +211,7 @@ NAMING = {"--text": "text", "--number": "number", "--date": "date", "--digits": 
           "--keep-blanks": "blanks_kept", "--drop-blanks": "blanks_dropped"}
 
 
-def wishes_of(given: argparse.Namespace, headings: list[str],
+def column_options(given: argparse.Namespace, headings: list[str],
               separator: str) -> list[ColumnOptions]:
     """Returns what is asked for each column. Rejects options that name none, or contradict each
     other."""

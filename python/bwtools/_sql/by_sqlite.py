@@ -14,7 +14,7 @@ from .._progress import Waiting
 from .._result import Numbers, Result, ValueRows, integers_of, is_long
 from .._storage.catalog import Catalog, Table
 from .._types.base import Column
-from .._types.kinds import undressed
+from .._types.kinds import unstyled
 from .lexer import quoted_name
 from .plan import Statement
 from .prepare import Guard, Renderer, declare, declared, reads_of, told
@@ -90,7 +90,7 @@ class Filler:
 
     def value(self, place: int, column: Column, flat: list[Any]) -> str:
         """Returns SQLite's text of a column's value, and puts what it is made of into the rows."""
-        kind: Any = undressed(column.kind)
+        kind: Any = unstyled(column.kind)
         if kind.name in ("whole", "nulls") or is_long(column):
             return "?"
         if kind.name == "decimals":

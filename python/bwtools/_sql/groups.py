@@ -20,7 +20,7 @@ from .._errors import Failed, Refused
 from .._result import Limits, Value, ValueRows, affinity, is_long
 from .._storage.catalog import Table
 from .._types.base import Column, Kind
-from .._types.kinds import undressed
+from .._types.kinds import unstyled
 from .lexer import quoted_name
 from .pushdown import aggregate_of, condition_of, direct_column, limits_of
 from .resolve import place_of
@@ -190,7 +190,7 @@ def sums_of_floats(engine: Engine, wanted: Wanted, column: Column, keys: Sequenc
 def sum_by_statements(engine: Engine, wanted: Wanted, column: Column) -> tuple[float, int] | None:
     """Returns the sum and the number of a column's doubles, by a statement for each exponent that
     they have; or None if so many would take longer than to list them."""
-    plain: Any = undressed(column.kind)
+    plain: Any = unstyled(column.kind)
     if plain.name != "floats":
         return None
     name, parts = column.name, list[tuple[int, int]]()

@@ -15,7 +15,7 @@ from .._errors import Refused
 from .._result import INTEGER, MOMENTS, affinity, is_long
 from .._types.base import GREATEST, LEAST, Column
 from .._types.dictionary import is_unicode
-from .._types.kinds import Styled, undressed
+from .._types.kinds import Styled, unstyled
 from .lexer import BLOB, MOST_SHORT, NUMBER, TEXT, WORD, text_literal
 from .syntax import ColumnName, Literal, Node, Unary
 
@@ -148,7 +148,7 @@ def form_of(column: Column, constant: Constant, sign: str) -> str:
         return text_form(column, value)
     if value is None or isinstance(value, bytes):
         return ""
-    plain: Any = undressed(kind)
+    plain: Any = unstyled(kind)
     if is_long(column):
         scaled = Constant(None, value * 10 ** plain.digits, False, False, "." * (MOST_SURE + 1))
         return integer_form(scaled, value * 10 ** plain.digits, sign)

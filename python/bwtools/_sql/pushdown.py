@@ -12,7 +12,7 @@ from .._result import Limits, NumberRows, SortKey, ValueRows, WantedRows
 from .._storage.catalog import Table
 from .._types.base import GREATEST, LEAST, Column, Kind
 from .._types.dictionary import StoredList
-from .._types.kinds import undressed
+from .._types.kinds import unstyled
 from .lexer import NUMBER, TEXT
 from .literals import Constant, constant_of
 from .resolve import place_of
@@ -148,7 +148,7 @@ def exact_values(column: Column, numbers: Sequence[int]) -> list[Fraction]:
     """Returns the values of a column's numbers: of doubles the decimals as which they are
     printed."""
     from fractions import Fraction
-    plain: Any = undressed(column.kind)
+    plain: Any = unstyled(column.kind)
     if plain.plural == "floats":
         return [Fraction(repr(value)) for value in values.stored(column.kind, numbers)]
     power = 10 ** plain.digits if plain.name == "decimals" else 1

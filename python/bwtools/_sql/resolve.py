@@ -9,7 +9,7 @@ from .._result import EXACT_DIGITS
 from .._storage.catalog import Catalog, missing
 from .._types import kinds
 from .._types.base import GREATEST, Column, Kind
-from .._types.kinds import undressed
+from .._types.kinds import unstyled
 from .lexer import MOST_SHORT, NUMBER, WORD
 from .syntax import (Between, Call, Case, ColumnName, Common, Comparison, FromItem, InList, InQuery,
                      Item, Literal, Name, NestedSources, Node, NullTest, Operation, Output, Query,
@@ -109,7 +109,7 @@ def exact_of(node: Node) -> Exact | None:
 
 def exact_column(column: Column) -> Exact | None:
     """Returns what is known of a column: its bounds are among the columns file's."""
-    kind: Any = undressed(column.kind)
+    kind: Any = unstyled(column.kind)
     if kind.name == "truths":
         return Exact(0, 1)
     if kind.name not in ("whole", "decimals"):

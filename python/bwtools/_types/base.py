@@ -248,13 +248,13 @@ class Styled(Valued):
         return None if plain is None else self.inner.number(plain)
 
     def text(self, number: int) -> str:
-        return self.style.dressed(self.inner.text(number))
+        return self.style.format(self.inner.text(number))
 
     def total(self, number: int) -> str:
-        return self.style.dressed(self.inner.total(number))
+        return self.style.format(self.inner.total(number))
 
     def spell(self, numbers: Sequence[int]) -> list[str]:
-        return list(map(self.style.dressed, self.inner.spell(numbers)))
+        return list(map(self.style.format, self.inner.spell(numbers)))
 
     def place(self, literal: Literal) -> Place | None:
         number = self.number(literal) if isinstance(literal, str) else None

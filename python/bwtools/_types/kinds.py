@@ -14,7 +14,7 @@ if TYPE_CHECKING:
 
 __all__ = ["Clocks", "Dates", "Decimals", "Floats", "Nulls", "Ranked",
            "Styled", "Texts", "Times", "Truths", "Whole", "kind_of",
-           "undressed"]
+           "unstyled"]
 
 NUMBERS = ("whole", "decimals", "floats", "ranked")
 # the module of each kind, whose class has the kind's name
@@ -30,7 +30,7 @@ def __getattr__(name: str) -> Any:
     return getattr(importlib.import_module(f".{MODULES[name.lower()]}", __package__), name)
 
 
-def undressed(kind: Kind) -> Kind:
+def unstyled(kind: Kind) -> Kind:
     """Returns the kind without the style in which its numbers are printed."""
     return kind.inner if isinstance(kind, Styled) else kind
 

@@ -29,7 +29,7 @@ BETWEEN = "'\u2019 \u00a0\u202f_"
 # stands for a comma that separates the last three digits, and above these every two, as in India
 LAKHS = ",,"
 # patterns of many words take long to compile, and queries need none of them
-DRESSED = (
+STYLED = (
     rf"(?P<open>\()?(?P<sign>[+-]?)(?P<prefix>{PREFIX})?(?P<inner>[+-]?)"
     rf"(?P<body>[0-9](?:[0-9.,{BETWEEN}]*[0-9.,])?|[.,][0-9]+)(?P<power>[eE][+-]?[0-9]{{1,6}})?"
     rf"(?P<suffix>{SUFFIX})?(?P<close>\))?")
@@ -64,14 +64,14 @@ class Marks(NamedTuple):
 
 
 @functools.lru_cache(None)
-def dressed() -> re.Pattern[str]:
+def styled_number() -> re.Pattern[str]:
     """Returns the pattern of numbers in any style."""
-    return re.compile(DRESSED)
+    return re.compile(STYLED)
 
 
 def parts_of(text: str) -> Parts | None:
     """Returns the parts of a text, or None if it isn't a number in any style."""
-    found = dressed().fullmatch(text)
+    found = styled_number().fullmatch(text)
     if not found or (found["open"] is None) != (found["close"] is None):
         return None
     if found["sign"] and found["inner"]:
@@ -141,7 +141,7 @@ def is_number(text: str) -> bool:
 @functools.lru_cache(None)
 def like_number() -> re.Pattern[str]:
     """Returns the pattern of lines that may be numbers."""
-    return re.compile("^(?:" + re.sub(r"\?P<[a-z]+>", "?:", DRESSED) +
+    return re.compile("^(?:" + re.sub(r"\?P<[a-z]+>", "?:", STYLED) +
                       "|[+-]?[0-9]+\\.(?:[eE][+-]?[0-9]{1,6})?)$", re.MULTILINE)
 
 
@@ -204,7 +204,7 @@ class Style(NamedTuple):
         plain = f"{found.sign}{body.replace(self.mark, '.')}{found.power}"
         return plain if PLAIN.fullmatch(plain) else None
 
-    def dressed(self, plain: str) -> str:
+    def format(self, plain: str) -> str:
         """Returns a plain spelling in this style."""
         is_negative, digits = plain[:1] == "-", plain.lstrip("+-")
         if self.grouping and "e" not in digits:

@@ -20,12 +20,12 @@ from .._identifiers import MOST_BYTES, MOST_CHARACTERS, MOST_ROWS, names_of, opt
 from .._inference.ambiguity import Decision, change_in_double
 from .._inference.fields import Fields, Numbered, Part, Plain, values_of
 from .._inference.infer import Sorted, decide, numbered_doubles, restores, sorted_texts
-from .._inference.options import NULLS, ColumnOptions, wishes_of
+from .._inference.options import NULLS, ColumnOptions, column_options
 from .._progress import Waiting
 from .._storage.catalog import record_of
 from .._storage.columns_file import TableFile
 from .._types.base import GREATEST, Column, Kind
-from .._types.kinds import Whole, undressed
+from .._types.kinds import Whole, unstyled
 from .._types.number_format import SIMPLE
 from .._types.numbers import Decimals, Floats, Ranked
 from .._types.temporal import Times
@@ -65,9 +65,9 @@ class Numbers:
         self.column, self.decision, self.texts = column, decision, texts
         self.counts = Counts()
         known = column.words
-        if texts and column.have_blanks and column.wishes.rules.keeps_blanks:
+        if texts and column.have_blanks and column.options.rules.keeps_blanks:
             known = exact_words(column)
-        words = column.wishes.nulls if texts else column.wishes.words
+        words = column.options.nulls if texts else column.options.words
         self.counts.nulls = {word: known[word] for word in words if word in known}
         self.counts.span = column.plain.spans.ends.get(0) if not texts and \
             isinstance(decision.kind, Whole) else None
@@ -98,13 +98,13 @@ class Numbers:
         kind = self.decision.kind
         assert kind is not None
         return part.kept is None or part.has_blanks or \
-            part.kept.form == "number" and isinstance(undressed(kind), (Floats, Ranked))
+            part.kept.form == "number" and isinstance(unstyled(kind), (Floats, Ranked))
 
     def places(self) -> Iterator[list[Optional[int]]]:
         """Yields the places of texts."""
         assert self.texts is not None and self.column.dictionary is not None
         count, places = len(self.texts.kind.listed), self.texts.places
-        if self.column.have_blanks and not self.column.wishes.rules.keeps_blanks:
+        if self.column.have_blanks and not self.column.options.rules.keeps_blanks:
             for part in self.column.parts:
                 if part.has_blanks:
                     counts = self.column.dictionary.counts[part.first:part.end]
@@ -120,7 +120,7 @@ class Numbers:
              counts: Sequence[int]) -> list[Optional[int]]:
         """Returns the numbers of fields that are kept as numbers."""
         assert self.decision.kind is not None
-        kind = undressed(self.decision.kind)
+        kind = unstyled(self.decision.kind)
         if part.has_blanks:
             self.count_padded(texts, counts)
         if kept.nulls:
@@ -163,7 +163,7 @@ class Numbers:
     def read(self, part: Part, texts: Sequence[str],
              counts: Sequence[int]) -> list[Optional[int]]:
         """Returns the numbers of fields that are read one by one."""
-        words, decision, kind = set(self.column.wishes.words), self.decision, self.decision.kind
+        words, decision, kind = set(self.column.options.words), self.decision, self.decision.kind
         assert kind is not None, "a column of texts has other codes"
         if part.has_blanks:
             self.count_padded(texts, counts)
@@ -190,7 +190,7 @@ class Numbers:
             counts.change = max(counts.change, change)
         elif not is_same:
             counts.changed += count
-        if number == 0 and text[:1] == "-" and isinstance(undressed(kind), (Floats, Ranked)):
+        if number == 0 and text[:1] == "-" and isinstance(unstyled(kind), (Floats, Ranked)):
             counts.zeros += count
 
 
@@ -255,7 +255,7 @@ def report_lines(columns: Sequence[Column], counts: Sequence[Counts],
 
 def notes(column: Column, numbers: Numbers) -> Iterator[str]:
     """Yields the notes on a column: why it is one of texts, and what isn't printed as it was."""
-    counts, is_float = numbers.counts, undressed(column.kind).plural == "floats"
+    counts, is_float = numbers.counts, unstyled(column.kind).plural == "floats"
     if column.why:
         yield f"texts{', though ' if column.looks_like else ': '}{column.why}"
     if column.looks_like:
@@ -264,10 +264,10 @@ def notes(column: Column, numbers: Numbers) -> Iterator[str]:
         for word, count in words_in(numbers):
             null = option('--null', f'{column.heading}={word}')
             yield f"{shown(word)} is a text in {counted(count, 'field')}, and null by {null}"
-    if "%y" in getattr(undressed(column.kind), "form", ""):
+    if "%y" in getattr(unstyled(column.kind), "form", ""):
         yield "years of 69 to 99 are 1969 to 1999, those of 00 to 68 are 2000 to 2068"
     words = [shown(word) for word in counts.nulls if word]
-    if words and numbers.column.wishes.rules.keeps_spelling:
+    if words and numbers.column.options.rules.keeps_spelling:
         yield f"{', '.join(words)} can't be kept: a null comes back as an empty field"
     if counts.padded:
         yield f"blanks dropped in {counted(counts.padded, 'field')}"
@@ -289,7 +289,7 @@ def words_in(numbers: Numbers) -> list[tuple[str, int]]:
     many fields have each."""
     column = numbers.column
     return [(word, column.words[word]) for word in NULLS if word in column.words and
-            word not in column.wishes.nulls and not column.wishes.is_text]
+            word not in column.options.nulls and not column.options.is_text]
 
 
 # A CSV file as tables of numbers, and what these mean: bw codes the file, and what its columns
@@ -329,7 +329,7 @@ class Table:
         self.source = Source(path, given, MOST_ROWS, opened)
         marks = self.source.text.marks()
         self.headings = [heading.strip(BLANKS) for heading in self.source.headings]
-        self.wishes = wishes_of(given, self.headings, self.source.separator)
+        self.options = column_options(given, self.headings, self.source.separator)
         self.columns, self.numbers = list[Column](), list[Numbers]()
         self.coded = self.code()
         if marks.differ(self.source.text.marks()):
@@ -354,18 +354,18 @@ class Table:
     def codes_of(self, coded: CodedFile) -> list[Codes]:
         """Returns the codes of all columns. Raises Mixed if some must be others."""
         found, mixed = list[Codes](), set[int]()
-        for place, wishes in enumerate(self.wishes):
+        for place, options in enumerate(self.options):
             ends = ends_of(coded.parts, place)
             held = [each for part in coded.parts if (each := part.dictionaries[place])]
-            if ends and (needs_codes(wishes, ends) or not are_whole(held, wishes, ends)):
+            if ends and (needs_codes(options, ends) or not are_whole(held, options, ends)):
                 mixed.add(place)
             elif not mixed:
-                found.append(self.codes(coded, place, wishes, ends))
+                found.append(self.codes(coded, place, options, ends))
         if mixed:
             raise Mixed(mixed)
         return found
 
-    def codes(self, coded: CodedFile, place: int, wishes: ColumnOptions,
+    def codes(self, coded: CodedFile, place: int, options: ColumnOptions,
               ends: Optional[tuple[int, int]]) -> Codes:
         """Returns the codes of a column."""
         dictionaries = [part.dictionaries[place] for part in coded.parts]
@@ -381,7 +381,7 @@ class Table:
         if any(each.lengths and max(each.lengths) > MOST_CHARACTERS for each in held):
             self.source.refuse_odd()
         try:
-            fields = Fields(wishes, plain_of(wishes), coded.rows, dictionary)
+            fields = Fields(options, plain_of(options), coded.rows, dictionary)
         except UnicodeDecodeError:
             self.source.text.undecoded()
         if fields.has_nul and not self.source.text.may_have_nul:
@@ -408,7 +408,7 @@ class Table:
         self.write_numbers(coded.parts, codes)
         for made, numbers in zip(self.columns, self.numbers):
             span, nulls = numbers.counts.span, numbers.counts.nulls
-            made.nulls = [word for word in numbers.column.wishes.words if word and word in nulls]
+            made.nulls = [word for word in numbers.column.options.words if word and word in nulls]
             if numbers.texts is None:
                 made.ends = [] if span is None else list(map(made.kind.text, span))
 
@@ -417,7 +417,7 @@ class Table:
         texts = sorted_texts(column) if decision.kind is None else None
         kind = texts.kind if texts else decision.kind
         assert kind is not None
-        self.columns.append(Column(name, column.wishes.heading, kind, (),
+        self.columns.append(Column(name, column.options.heading, kind, (),
                                    texts.ends if texts else (), decision.why, decision.looks_like))
         self.numbers.append(Numbers(column, decision, texts))
 
@@ -480,14 +480,14 @@ def ends_of(parts: Sequence[CodedPart], place: int) -> Optional[tuple[int, int]]
     return min(least for least, _ in bounds), max(greatest for _, greatest in bounds)
 
 
-def needs_codes(wishes: ColumnOptions, ends: tuple[int, int]) -> bool:
+def needs_codes(options: ColumnOptions, ends: tuple[int, int]) -> bool:
     """Returns whether numbers are asked to become anything else."""
-    if wishes.is_text or wishes.form is not None or wishes.digits is not None:
+    if options.is_text or options.form is not None or options.digits is not None:
         return True
-    return any(SIMPLE.fullmatch(word) and ends[0] <= int(word) <= ends[1] for word in wishes.nulls)
+    return any(SIMPLE.fullmatch(word) and ends[0] <= int(word) <= ends[1] for word in options.nulls)
 
 
-def are_whole(dictionaries: Sequence[Dictionary], wishes: ColumnOptions,
+def are_whole(dictionaries: Sequence[Dictionary], options: ColumnOptions,
               ends: tuple[int, int]) -> bool:
     """Returns whether fields beside numbers are whole numbers and words for null, and all numbers
     fit one column."""
@@ -498,7 +498,7 @@ def are_whole(dictionaries: Sequence[Dictionary], wishes: ColumnOptions,
                 texts = {text.strip(BLANKS) for text in texts_of(block.fields)}
             except UnicodeDecodeError:
                 return False
-            texts.difference_update(wishes.words)
+            texts.difference_update(options.words)
             if not all(map(SIMPLE.fullmatch, texts)):
                 return False
             numbers = list(map(int, texts))
@@ -506,13 +506,13 @@ def are_whole(dictionaries: Sequence[Dictionary], wishes: ColumnOptions,
     return greatest - least <= GREATEST
 
 
-def plain_of(wishes: ColumnOptions) -> Plain:
+def plain_of(options: ColumnOptions) -> Plain:
     """Returns what is known of the fields of a column before they are read."""
-    own = (wishes.form is not None or wishes.is_text or wishes.digits is not None or
-           wishes.rules.keeps_blanks)
-    comma = "," if wishes.rules.separator != "," or wishes.is_number else ""
-    words = {word: place for place, word in enumerate(wishes.words, 1)}
-    return Plain(words, "" if own or wishes.rules.thousands else f".{comma}")
+    own = (options.form is not None or options.is_text or options.digits is not None or
+           options.rules.keeps_blanks)
+    comma = "," if options.rules.separator != "," or options.is_number else ""
+    words = {word: place for place, word in enumerate(options.words, 1)}
+    return Plain(words, "" if own or options.rules.thousands else f".{comma}")
 
 
 def lines_of(numbers: Numbers) -> Iterator[str]:

@@ -15,26 +15,26 @@ add_row-requires c = c.rows.invariant.into.count
 
 pub returns-then-is_past-clause-rows : goal.returns-then-is_past-clause-rows
 returns-then-is_past-clause-rows c =
-    let is : IsReadAs c.args.dialect (state_of c.rows.place) c.rows.text.now c.read_record.new.fields c.in-Some.after = rw c.in-Some.is at c.in_ok-after.ensures in
+    let is : IsReadAs c.args.dialect (state_of c.rows.place) c.rows.text.now c.read.new.self c.in-Some.after = rw c.in-Some.is at c.in_ok-after.ensures in
     let past : is_past c.args.selection.rows c.rows.number ≡ true = sym c.is_past.ensures ∙ c.if-is_past.true in
     (c.rows.invariant.rows, rows_past _ _ _ _ _ _ _ _ _ _ _ _ c.rows.invariant is past, c.rows.invariant.into, c.rows.invariant.within)
 
 pub returns-then-is_past-clause-left : goal.returns-then-is_past-clause-left
 returns-then-is_past-clause-left c =
-    let is : IsReadAs c.args.dialect (state_of c.rows.place) c.rows.text.now c.read_record.new.fields c.in-Some.after = rw c.in-Some.is at c.in_ok-after.ensures in
+    let is : IsReadAs c.args.dialect (state_of c.rows.place) c.rows.text.now c.read.new.self c.in-Some.after = rw c.in-Some.is at c.in_ok-after.ensures in
     let past : is_past c.args.selection.rows c.rows.number ≡ true = sym c.is_past.ensures ∙ c.if-is_past.true in
     ap (λ (xs : List ℕ). length xs) (end_past _ _ _ _ _ _ _ _ _ _ _ _ c.rows.invariant is past)
 
 pub returns-in_err-check_record-clause-fault : goal.returns-in_err-check_record-clause-fault
 returns-in_err-check_record-clause-fault c =
-    let is : IsReadAs c.args.dialect (state_of c.rows.place) c.rows.text.now c.read_record.new.fields c.in-Some.after = rw c.in-Some.is at c.in_ok-after.ensures in
+    let is : IsReadAs c.args.dialect (state_of c.rows.place) c.rows.text.now c.read.new.self c.in-Some.after = rw c.in-Some.is at c.in_ok-after.ensures in
     let here : is_past c.args.selection.rows c.rows.number ≡ false = sym c.is_past.ensures ∙ c.if-is_past.false in
     let wrong = rw (c.is_rejected-is_rejected.ensures, c.has_length-has_length.ensures, c.len.ensures) at c.in_err-check_record.ensures.checked in
     rw (err_passed_on _ c.from_residual-in_err-check_record.ensures.1) (λ aside. row_wrong _ _ _ _ _ _ _ _ _ _ _ _ c.rows.invariant is _ here (sym wrong))
 
 pub rows-preserved : goal.rows-preserved
 rows-preserved c =
-    let is : IsReadAs c.args.dialect (state_of c.rows.place) c.rows.text.now c.read_record.new.fields c.in-Some.after = rw c.in-Some.is at c.in_ok-after.ensures in
+    let is : IsReadAs c.args.dialect (state_of c.rows.place) c.rows.text.now c.read.new.self c.in-Some.after = rw c.in-Some.is at c.in_ok-after.ensures in
     let here : is_past c.args.selection.rows c.rows.number ≡ false = sym c.is_past.ensures ∙ c.if-is_past.false in
     let right = rw (c.is_rejected-is_rejected.ensures, c.has_length-has_length.ensures, c.len.ensures) at c.in_ok-check_record.ensures.checked in
     let kept = passed _ _ _ (sym right) in

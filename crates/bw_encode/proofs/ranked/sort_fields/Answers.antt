@@ -1,11 +1,11 @@
 -- Sorting only moves entries.
 use Rattle.std.proofs.Common.{◌∙◌, sym, ap, subst}
 use Rattle.std.specs.List.Sorted.{IsPermutation}
-use Rattle.std.proofs.lemmas.List.Sorted.{IsPermutation-map}
+use Rattle.std.proofs.lemmas.List.Sorted.{All-permutation, IsPermutation-map}
 use Rattle.bw_encode.specs.Dictionary.{IsAscending}
 use Rattle.bw_encode.specs.Fields.{texts_under}
 use Rattle.bw_encode.specs.FieldSet.{AreDistinct}
-use Rattle.bw_encode.specs.Ranked.{entries_bytes, entry_bytes}
+use Rattle.bw_encode.specs.Ranked.{IsPrefix, entries_bytes, entry_bytes}
 use Rattle.bw_encode.proofs.RankLemmas.{ascending_entries, distinct_after, own_places, ranked_all}
 use Rattle.bw_encode.proofs.ranked.sort_fields.Goals as goal
 
@@ -19,6 +19,7 @@ returns-clause-ascending c =
     let distinct : AreDistinct (entries_bytes c.in_ok-entries.entries.items) = subst AreDistinct (sym c.in_ok-entries.ensures.bytes) c.requires.distinct in
     subst IsAscending (sym (c.in_ok-fields.ensures ∙ ap entries_bytes c.deref-2.ensures.value))
     (ascending_entries c.sort_unstable.new.self.items c.sort_unstable.ensures.sorted
+    (All-permutation (λ entry. IsPrefix entry.bytes.now entry.prefix) c.in_ok-entries.entries.items c.sort_unstable.new.self.items c.sort_unstable.ensures.permutation c.in_ok-entries.ensures.prefixed)
     (distinct_after c.in_ok-entries.entries.items c.sort_unstable.new.self.items c.sort_unstable.ensures.permutation distinct))
 
 pub returns-clause-distinct : goal.returns-clause-distinct

@@ -5,7 +5,7 @@ use Rattle.bw_file.specs.TableReader.{layout_in, rows_given, schema_in}
 use Rattle.bw_file.proofs.MemoryAnswers.{columns_of, later_answers, memory_answers, same_table}
 use Rattle.bw_file.proofs.NextLemmas.{end_of, refusal_of, segment_of}
 use Rattle.bw_memory.proofs.ReadLemmas.{all_kept, given_next, groups_next, kept_next, no_groups}
-use Rattle.bw_memory.proofs.ReadLemmas.{none_given, none_read}
+use Rattle.bw_memory.proofs.ReadLemmas.{none_given, none_read, stored_next}
 use Rattle.bw_memory.proofs.reading.read_segments.Goals as goal
 use Rattle.bw_model.proofs.ErrLemmas.{err_passed_on}
 
@@ -14,6 +14,7 @@ loop-segment-init g c =
     let none = c.requires.fresh.0 in
     record {
       kept = none_read _ _ _ _ none c.requires.none;
+      stored = c.requires.none;
       given = none_given _ _ none;
       read = λ start read. rw (no_groups (layout_in c.args.reader.now) (schema_in c.args.reader.now).columns.items (rows_given c.args.reader.now) c.args.columns.now) read;
       same = record { version = refl; layout = refl; schema = refl; rows = refl };
@@ -64,10 +65,11 @@ loop-segment-preserved g c =
     let added = c.in_ok-pushed.ensures.added in
     let count = c.loop-segment.count in
     let new = c.push_segment-pushed.new.columns in
-    let groups = groups_next first reader next segment count _ new so_far.same gave.of_table so_far.kept so_far.given added gave.row_count in
+    let groups = groups_next first reader next segment count _ new so_far.same gave.of_table so_far.kept so_far.stored so_far.given added gave.row_count in
     record {
-      kept = kept_next first reader next segment count _ new so_far.same gave.of_table so_far.kept so_far.given added gave.row_count;
-      given = given_next first reader next segment count _ new so_far.same gave.of_table so_far.kept so_far.given added gave.row_count;
+      kept = kept_next first reader next segment count _ new so_far.same gave.of_table so_far.kept so_far.stored so_far.given added gave.row_count;
+      stored = stored_next first reader next segment count _ new so_far.same gave.of_table so_far.kept so_far.stored so_far.given added gave.row_count;
+      given = given_next first reader next segment count _ new so_far.same gave.of_table so_far.kept so_far.stored so_far.given added gave.row_count;
       read = λ start read. rw groups (gave.after start _ (so_far.read start read));
       same = same_table _ _ _ so_far.same gave.same;
       reading = gave.goes_on;

@@ -1,5 +1,7 @@
 use Rattle.std.proofs.Common.{◌≡◌, ◌-◌, ◌*◌, ◌≤◌, min, None, []}
 use Rattle.bw_model.specs.Groups.{group_size}
+use Rattle.bw_segment.specs.ColumnBlocks.{StoresBlocks}
+use Rattle.bw_file.specs.Blocks.{form_of}
 use Rattle.bw_file.specs.Reading.{State, state_at}
 use Rattle.bw_file.specs.TableReader.{SameTable, ReadProgress, bytes_taken, layout_in, rows_given}
 use Rattle.bw_file.specs.TableReader.{rows_stated, schema_in, final_result}
@@ -10,6 +12,7 @@ use Rattle.bw_memory.proofs.reading.read_segments.Given as goal
 abbrev pub invariant-loop-segment : goal.invariant-loop-segment
 invariant-loop-segment g l = record {
   kept : StoresSegments (layout_in l.initial.reader) (schema_in l.initial.reader).columns.items (rows_given l.reader) l.count l.columns;
+  stored : StoresBlocks (form_of (layout_in l.initial.reader)) (schema_in l.initial.reader).columns.items l.count l.columns;
   given : rows_given l.reader ≡ min (rows_stated l.initial.reader) (group_size * l.count);
   read : (start : State)
       → ReadProgress start (state_at (g.S.Source.state l.initial.source) (bytes_taken l.initial.reader)) l.initial.reader []

@@ -17,18 +17,12 @@ loop-col-init g c = λ rows keep.
     ap₂ (λ l n. l ++ flat_map blocks (range_with_len 0 n)) c.in_ok-bytes.ensures.items (omega arith)
 
 pub loop-col-preserved : goal.loop-col-preserved
-unfolding block_bytes
 loop-col-preserved g c = λ rows keep.
-    let text = g.L.CodeLayout.packing.bytes in
     let columns = c.args.placement.now.schema.columns.items in
     let col = c.loop-col.col in
     let count : c.len-count.result ≡ length columns = search rules in
     let there : col < length columns = omega (arith, count) in
     let blocks = λ (column : ℕ). block_bytes g.L.CodeLayout.packing columns column rows in
-    let nulls = cond (is_nullable columns col) (bytes_of_lanes (null_bits rows col)) [] in
-    let codes = text (width_at columns col) (stored_codes columns rows col) in
-    let first = c.in_ok-push_nulls.ensures.added rows (keep.nulls col there) in
-    let added : c.push_codes.new.bytes.items ≡ c.loop-col.bytes.items ++ blocks col =
-    c.in_ok-push_codes.ensures.added ∙ ap₂ ◌++◌ first (ap₂ text c.width.ensures.width (keep.codes col there)) ∙ append_assoc c.loop-col.bytes.items nulls codes in
+    let added = c.in_ok-push_block.ensures.added rows (keep.codes col there) (keep.nulls col there) in
     ap (λ l. l ++ flat_map blocks (range_with_len (col + 1) (length columns - (col + 1)))) added
     ∙ block_more blocks c.loop-col.bytes.items (length columns) col there ∙ c.loop-col.invariant rows keep

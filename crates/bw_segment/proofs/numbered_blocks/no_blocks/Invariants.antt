@@ -9,5 +9,6 @@ use Rattle.bw_segment.proofs.numbered_blocks.no_blocks.Given as goal
 abbrev pub invariant-loop-col : goal.invariant-loop-col
 invariant-loop-col g l = record {
   sizes : map (λ (blocks : ColumnBlocks). blocks.size) l.kept.items ≡ map (block_size g.L.CodeLayout.packing l.placement.schema.columns.items) (range_with_len 0 l.col);
+  strides : map (λ (blocks : ColumnBlocks). blocks.stride) l.kept.items ≡ map (block_size g.L.CodeLayout.packing l.placement.schema.columns.items) (range_with_len 0 l.col);
   none : map (λ (blocks : ColumnBlocks). blocks.bytes.items) l.kept.items ≡ map no_bytes (range_with_len 0 l.col);
 }

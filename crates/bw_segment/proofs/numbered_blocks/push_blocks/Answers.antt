@@ -13,7 +13,7 @@ pub loop-col-preserved : goal.loop-col-preserved
 loop-col-preserved g c =
     let so_far = c.loop-col.invariant in
     let pushed = c.in_ok-push.ensures in
-    one_more _ _ _ c.loop-col.col c.push.new.self c.index-kept-col.result so_far (omega arith) pushed.size
+    one_more _ _ _ c.loop-col.col c.push.new.self c.index-kept-col.result so_far (omega arith) pushed.size pushed.stride
     (pushed.bytes ∙ ap (λ (l : List ℕ). (get_or c.loop-col.kept c.loop-col.col c.index-kept-col.result).bytes.items ++ l) c.block.ensures.block)
 
 pub returns-clause-keep : goal.returns-clause-keep

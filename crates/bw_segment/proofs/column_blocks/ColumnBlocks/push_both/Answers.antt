@@ -10,6 +10,6 @@ pub invariant_of-self-2 : goal.invariant_of-self-2
 invariant_of-self-2 c =
     let old = c.args.self.now in
     record {
-      same = fronts_pushed old.size old.bytes.items c.args.block.now old.fronts.items _ _ _ (is_ok c.extend_from_slice-2.result) old.same c.requires.all c.requires.size c.requires.capacity
+      same = fronts_pushed old.stride old.size old.bytes.items c.args.block.now old.fronts.items _ _ _ (is_ok c.extend_from_slice-2.result) c.requires.dense old.same c.requires.all c.requires.size c.requires.capacity
           c.in_ok-make_room.ensures.same c.in_ok-extend_from_slice.ensures.items c.extend_from_slice-2.ensures.items;
     }

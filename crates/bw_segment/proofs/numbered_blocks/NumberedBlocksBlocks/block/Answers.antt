@@ -20,6 +20,7 @@ slice_bounds-result-end c = omega (arith, room_read _ _ _ _ _ c.requires c.index
 
 pub returns : goal.returns
 returns c =
-    let size = (get_or c.args.self.now.columns.now c.args.col c.index-self-col.result).size in
-    let start = c.args.self.now.number * size in
+    let column = get_or c.args.self.now.columns.now c.args.col c.index-self-col.result in
+    let size = column.size in
+    let start = c.args.self.now.number * column.stride in
     ap (λ (l : List ℕ). slice_range l start (start + size)) c.deref-bytes.ensures.value ∙ block_read _ _ _ _ _ c.requires c.index-self-col.result

@@ -13,4 +13,4 @@ bounds-self-col c = is_column _ _ _ _ _ c.requires
 pub returns-clause-front : goal.returns-clause-front
 returns-clause-front c =
     let column = get_or c.args.self.now.columns.now c.args.col c.index-self-col.result in
-    if_some c.front.result _ _ (λ front is. is ∙ front_is column.size (c.args.self.now.number * column.size) column.bytes.items _ (block_read _ _ _ _ _ c.requires c.index-self-col.result)) c.front.ensures.front
+    if_some c.front.result _ _ (λ front is. is ∙ front_is column.size (c.args.self.now.number * column.stride) column.bytes.items _ (block_read _ _ _ _ _ c.requires c.index-self-col.result)) c.front.ensures.front

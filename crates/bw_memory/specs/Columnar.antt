@@ -1,0 +1,122 @@
+-- A table of a file by columns, of which some columns have been read.
+use Rattle.std.specs.Prelude.{◌≡◌, ◌≢◌, ◌⊎◌, ◌*◌, ◌<◌, ℕ, List, Option, IfSome, Ok, Err, true, drop}
+use Rattle.std.specs.Prelude.{length, take}
+use Rattle.bw_model.specs.declared.fault.Fault.{Fault}
+use Rattle.bw_model.specs.Fault.{at_byte, is_memory}
+use Rattle.bw_model.specs.FaultTable.{BYTES_AFTER_END, TRUNCATED}
+use Rattle.bw_model.specs.SchemaText.{schema_shape}
+use Rattle.bw_io.specs.Source.{is_input_fault}
+use Rattle.bw_file.specs.declared.order.FileOrder.TheVariants.{ByColumns}
+use Rattle.bw_file.specs.Blocks.{block_size}
+use Rattle.bw_file.specs.Columnar.{block_place, columnar_length}
+use Rattle.bw_file.specs.Reading.{tail}
+use Rattle.bw_file.specs.TableReading.{HeaderShape, header_in}
+use Rattle.bw_memory.specs.declared.columnar.ColumnarTable.{ColumnarTable}
+use Rattle.bw_memory.specs.declared.table.MemoryTable.{MemoryTable}
+use Rattle.bw_memory.specs.Columns.{IsFirstFault, block_in}
+use Rattle.bw_memory.specs.Filling.{IsFillFault}
+use Rattle.bw_memory.specs.MemoryTable.{layout_of, schema_of, segments_in}
+
+-- the table, in which a column that wasn't read has its minimum in each row
+abbrev pub table_in : ColumnarTable → MemoryTable
+table_in columnar = columnar.table
+
+-- the number of bytes of the header
+abbrev pub head_size : ColumnarTable → ℕ
+head_size columnar = columnar.head
+
+-- the header that the file states
+abbrev pub columnar_header : ℕ → ColumnarTable → HeaderShape
+columnar_header version columnar =
+    record {
+      version = version;
+      layout = layout_of columnar.table;
+      rows = columnar.table.rows;
+      schema = schema_shape (schema_of columnar.table);
+    }
+
+-- the bytes begin with this header
+abbrev pub StatesHeader : ColumnarTable → List ℕ → Type 0
+StatesHeader columnar bytes = (version : ℕ)
+    × (header_in ByColumns (tail 0 bytes) ≡ Ok (
+      columnar_header version columnar,
+      tail (head_size columnar) (drop (head_size columnar) bytes),
+    ))
+
+-- and are as many as it demands
+pub record StatesTable (columnar : ColumnarTable) (bytes : List ℕ) : Type 0 where
+  pub header : StatesHeader columnar bytes
+  pub size : length bytes ≡ columnar_length (layout_of columnar.table)
+      (schema_of columnar.table).columns.items (head_size columnar) (segments_in columnar.table)
+
+-- where a column's block in the segment of a number begins in the file
+abbrev pub place_in : ColumnarTable → ℕ → ℕ → ℕ
+place_in columnar column number =
+    block_place (layout_of columnar.table) (schema_of columnar.table).columns.items
+    (head_size columnar) (segments_in columnar.table) column number
+
+-- the bytes have this block of a column in the segment of a number
+abbrev pub HasBlock : ColumnarTable → ℕ → ℕ → List ℕ → List ℕ → Type 0
+HasBlock columnar column number block bytes =
+    block ≡ take (block_size (layout_of columnar.table) (schema_of columnar.table).columns.items
+    column) (drop (place_in columnar column number) bytes)
+
+-- the same table, as far as its header tells
+pub record SameHeader (old new : ColumnarTable) : Type 0 where
+  pub layout : layout_of (table_in new) ≡ layout_of (table_in old)
+  pub schema : schema_of (table_in new) ≡ schema_of (table_in old)
+  pub rows : (table_in new).rows ≡ (table_in old).rows
+  pub segments : segments_in (table_in new) ≡ segments_in (table_in old)
+  pub head : head_size new ≡ head_size old
+
+-- a column was read: its blocks are those of the file, if its bytes are known, and those of the
+-- others are as they were
+pub record HasReadColumn (known : Option (List ℕ)) (old new : ColumnarTable) (column : ℕ) : Type
+    0 where
+  pub same : SameHeader old new
+  pub others : (other : ℕ) → other ≢ column → (number : ℕ)
+      → block_in (table_in new) number other ≡ block_in (table_in old) number other
+  pub blocks : (number : ℕ) → number < segments_in (table_in old)
+      → IfSome known (HasBlock old column number (block_in (table_in new) number column))
+
+-- A column has an error: that of its first block that has one, each block being the file's if its
+-- bytes are known; the device ended too early, or a read failed; or out of memory.
+pub record IsBlockFault (known : Option (List ℕ)) (columnar : ColumnarTable) (column : ℕ)
+    (fault : Fault) : Type 0 where
+  pub blocks : ℕ → List ℕ
+  pub are : (number : ℕ) → number < segments_in (table_in columnar)
+      → IfSome known (HasBlock columnar column number (blocks number))
+  pub first : IsFirstFault (table_in columnar) column blocks (place_in columnar column 0) fault
+
+abbrev pub IsColumnFault : Option (List ℕ) → ColumnarTable → ℕ → Fault → Type 0
+IsColumnFault known columnar column fault =
+    IsBlockFault known columnar column fault ⊎ (is_memory fault ≡ true)
+    ⊎ IsFillFault known (place_in columnar column 0) (segments_in (table_in columnar)
+    * block_size (layout_of (table_in columnar)) (schema_of (table_in columnar)).columns.items column)
+    fault
+
+-- a file by columns was opened
+abbrev pub IsOpened : Option (List ℕ) → ColumnarTable → Type 0
+IsOpened known columnar = IfSome known (StatesTable columnar)
+
+-- The first bytes of a file have an error of the header; or they state a table, and the file has
+-- another length.
+pub data HasOpenFault (bytes : List ℕ) : Fault → Type 0 where
+  header : {fault : Fault} → header_in ByColumns (tail 0 (take 20000 bytes)) ≡ Err fault
+      → HasOpenFault bytes fault
+  shorter : (columnar : ColumnarTable) → StatesHeader columnar bytes
+      → length bytes < columnar_length (layout_of (table_in columnar))
+      (schema_of (table_in columnar)).columns.items (head_size columnar)
+      (segments_in (table_in columnar)) → HasOpenFault bytes (at_byte TRUNCATED (length bytes))
+  longer : (columnar : ColumnarTable) → StatesHeader columnar bytes
+      → columnar_length (layout_of (table_in columnar))
+      (schema_of (table_in columnar)).columns.items (head_size columnar)
+      (segments_in (table_in columnar)) < length bytes
+      → HasOpenFault bytes (at_byte BYTES_AFTER_END (columnar_length (layout_of (table_in columnar))
+      (schema_of (table_in columnar)).columns.items (head_size columnar)
+      (segments_in (table_in columnar))))
+
+-- what opening a file may fail by
+abbrev pub IsOpenFault : Option (List ℕ) → Fault → Type 0
+IsOpenFault known fault = (is_input_fault fault ≡ true)
+    ⊎ IfSome known (λ bytes. HasOpenFault bytes fault)

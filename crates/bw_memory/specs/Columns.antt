@@ -1,0 +1,37 @@
+-- The blocks of one column of a table in memory.
+use Rattle.std.specs.Prelude.{◌≡◌, ◌+◌, ◌*◌, ◌<◌, ℕ, List, [], Some, None, length}
+use Rattle.bw_model.specs.declared.fault.Fault.{Fault}
+use Rattle.bw_model.specs.Fault.{at_byte}
+use Rattle.bw_segment.specs.ColumnBlocks.{block_numbered}
+use Rattle.bw_segment.specs.Packing.{block_bytes}
+use Rattle.bw_file.specs.Blocks.{block_fault, block_size, form_of}
+use Rattle.bw_file.specs.TableReading.{fault_place}
+use Rattle.bw_memory.specs.declared.table.MemoryTable.{MemoryTable}
+use Rattle.bw_memory.specs.MemoryTable.{layout_of, schema_of, segments_in}
+use Rattle.bw_memory.specs.StoredSegments.{rows_numbered}
+
+-- the block of a column in the segment of a number
+abbrev pub block_in : MemoryTable → ℕ → ℕ → List ℕ
+block_in table number column = block_numbered table.columns.items number column
+
+-- each column has the block of no rows in each segment
+abbrev pub IsBlank : MemoryTable → Type 0
+IsBlank table = (column : ℕ) → column < length (schema_of table).columns.items → (number : ℕ)
+    → number < segments_in table → block_in table number column
+    ≡ block_bytes (form_of (layout_of table)) (schema_of table).columns.items column []
+
+-- the first error of a column's blocks, the first of which is at this place of a file
+pub record IsFirstFault (table : MemoryTable) (column : ℕ) (blocks : ℕ → List ℕ) (at : ℕ)
+    (fault : Fault) : Type 0 where
+  pub number : ℕ
+  pub within : number < segments_in table
+  pub before : (earlier : ℕ) → earlier < number
+      → block_fault (layout_of table) (schema_of table).columns.items column
+      (rows_numbered table.rows earlier) (blocks earlier) ≡ None
+  pub code : ℕ
+  pub here : block_fault (layout_of table) (schema_of table).columns.items column
+      (rows_numbered table.rows number) (blocks number) ≡ Some code
+  pub is : fault ≡ at_byte code (at
+      + number * block_size (layout_of table) (schema_of table).columns.items column
+      + fault_place (layout_of table) (schema_of table).columns.items (rows_numbered table.rows number)
+      column (blocks number) code)

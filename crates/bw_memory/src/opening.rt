@@ -1,0 +1,115 @@
+//! Opens a file by columns, and reads its columns.
+ghost use Rattle.std.specs.Prelude.{◌≡◌, ◌⊎◌, ◌+◌, ◌*◌, ◌/◌, ◌-◌, ◌^◌, ◌<◌, ◌≤◌, ◌≢◌, ℕ, length, take};
+ghost use Rattle.std.specs.Prelude.{true, IfErr, IfOk, IfSome, OnOk, OnErr};
+ghost use Rattle.bw_io.specs.Source.{failed_by, is_input_fault};
+ghost use Rattle.bw_file.specs.Blocks.{block_size};
+ghost use Rattle.bw_memory.specs.Columnar.{HasReadColumn, IsColumnFault, IsOpened, IsOpenFault};
+ghost use Rattle.bw_memory.specs.Columnar.{place_in, table_in};
+ghost use Rattle.bw_memory.specs.Columns.{IsBlank};
+ghost use Rattle.bw_memory.specs.Filling.{IsFillFault};
+ghost use Rattle.bw_memory.specs.MemoryTable.{layout_of, schema_of, segments_in};
+
+use crate::columnar::ColumnarTable;
+use crate::filling::fill_at;
+use crate::table::MemoryTable;
+use bw_file::{FileOrder, ParsedHeader, block_size, parse_header, segment_size};
+use bw_io::{Failed, RandomAccess};
+use bw_model::{Fault, code};
+use std::alloc::Global;
+
+/// No header has more bytes.
+const LONGEST_HEADER: u64 = 20_000;
+
+impl ColumnarTable {
+    /// Opens a file by columns: reads its header and its length, and no column.
+    ///
+    /// Errors: the header's, 301 to 305 and 310; 305 at the file's length, if it is shorter than its
+    /// columns, and 309 at the end of its columns, if it is longer; 701 if a read fails; 801 if
+    /// memory is refused. The device's count of failures must be less than 2^64 - 1.
+    pub fn open<D: RandomAccess>(alloc: Global, device: &mut D) -> Result<Self, Fault>
+        requires { (D.state device.old).failures < 2 ^ 64 - 1 }
+        ensures opened { IfOk result (IsOpened (D.state device.old).known) }
+        ensures blank { IfOk result (λ columnar. IsBlank (table_in columnar)) }
+        ensures refused { IfErr result (IsOpenFault (D.state device.old).known) }
+        ensures same { (D.state device.new).known ≡ (D.state device.old).known }
+        ensures count { (D.state device.new).failures
+            ≡ (D.state device.old).failures + failed_by result }
+    {
+        let size = match device.size() {
+            Ok(size) => size,
+            Err(Failed) => return Err(Fault::new(code::READ_FAILED)),
+        };
+        let count = size.min(LONGEST_HEADER) as usize;
+        let mut bytes = Vec::with_capacity(alloc, count)?;
+        bytes.resize(count, 0)?;
+        fill_at(device, 0, &mut bytes)?;
+        let ParsedHeader { header, size: head } = parse_header(
+            alloc,
+            FileOrder::ByColumns,
+            &bytes,
+        )?;
+        let table = MemoryTable::unread(alloc, header.layout, &header.schema, header.rows)?;
+        let all = table.segments as u64 * segment_size(table.layout, &table.placement) as u64;
+        if size < head + all {
+            return Err(Fault::at_byte(code::TRUNCATED, size));
+        }
+        if size > head + all {
+            return Err(Fault::at_byte(code::BYTES_AFTER_END, head + all));
+        }
+        Ok(ColumnarTable { table, head })
+    }
+
+    /// Returns the table, in which a column that wasn't read has its minimum in each row.
+    pub fn table(&self) -> &MemoryTable
+        ensures { result.now ≡ table_in self.now }
+    {
+        &self.table
+    }
+
+    /// Reads a column into memory, and validates its blocks.
+    ///
+    /// Errors: 308 at the first byte with a bit of a padding row, 307 and 306 at a block's first
+    /// byte, of the first block that has an error; 305 if the device ends within the column; 701 if a
+    /// read fails; 801 if memory is refused. The table is then as it was. The device's count of
+    /// failures must be less than 2^64 - 1.
+    pub fn read_column<D: RandomAccess>(
+        &mut self,
+        alloc: Global,
+        device: &mut D,
+        col: usize,
+    ) -> Result<(), Fault>
+        requires counter_fits { (D.state device.old).failures < 2 ^ 64 - 1 }
+        requires column { col < length (schema_of (table_in self.old)).columns.items }
+        ensures read { OnOk result (HasReadColumn (D.state device.old).known self.old self.new col) }
+        ensures refused { IfErr result (IsColumnFault (D.state device.old).known self.old col) }
+        ensures untouched { OnErr result (self.new ≡ self.old) }
+        ensures same { (D.state device.new).known ≡ (D.state device.old).known }
+        ensures count { (D.state device.new).failures
+            ≡ (D.state device.old).failures + failed_by result }
+    {
+        let layout = self.table.layout;
+        let size = block_size(layout, &self.table.placement, col);
+        let count = self.table.segments as usize * size;
+        let at = self.place_of(col);
+        let mut blocks = Vec::with_capacity(alloc, count)?;
+        blocks.resize(count, 0)?;
+        fill_at(device, at, &mut blocks)?;
+        self.table.validate_column(col, &blocks, at)?;
+        self.table.replace_column(alloc, col, blocks);
+        Ok(())
+    }
+
+    /// Returns where the blocks of a column begin in the file.
+    fn place_of(&self, col: usize) -> u64
+        requires { col < length (schema_of (table_in self.now)).columns.items }
+        ensures place { result ≡ place_in self.now col 0 }
+        ensures bound { result < 2 ^ 60 }
+    {
+        let segments = self.table.segments as u64;
+        let mut at = self.head;
+        for before in 0..col {
+            at += segments * block_size(self.table.layout, &self.table.placement, before) as u64;
+        }
+        at
+    }
+}

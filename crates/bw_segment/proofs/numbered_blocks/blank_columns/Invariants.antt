@@ -1,0 +1,13 @@
+use Rattle.std.proofs.Common.{◌≡◌, [], map, ℕ}
+use Rattle.std.specs.List.{range_with_len}
+use Rattle.bw_segment.specs.declared.column_blocks.ColumnBlocks.{ColumnBlocks}
+use Rattle.bw_segment.specs.Packing.{block_bytes, block_size}
+use Rattle.bw_segment.proofs.numbered_blocks.blank_columns.Given as goal
+
+-- the columns so far have the block of no rows
+abbrev pub invariant-loop-col : goal.invariant-loop-col
+invariant-loop-col g l = record {
+  sizes : map (λ (blocks : ColumnBlocks). blocks.size) l.kept.items ≡ map (block_size g.L.CodeLayout.packing l.placement.schema.columns.items) (range_with_len 0 l.col);
+  strides : map (λ (blocks : ColumnBlocks). blocks.stride) l.kept.items ≡ map (λ (column : ℕ). 0) (range_with_len 0 l.col);
+  bytes : map (λ (blocks : ColumnBlocks). blocks.bytes.items) l.kept.items ≡ map (λ (column : ℕ). block_bytes g.L.CodeLayout.packing l.placement.schema.columns.items column []) (range_with_len 0 l.col);
+}
