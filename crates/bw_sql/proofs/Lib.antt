@@ -1,5 +1,6 @@
 pub mod Cuts
 pub mod Cases
+pub mod Expectations
 pub mod Frontiers
 pub mod Machine
 pub mod Repeats

@@ -61,7 +61,7 @@ same_query schema tokens query other a b =
     sym (query_read schema tokens query a) ∙ query_read schema tokens other b in cc
 
 -- from what the readers answer to what a text is read as
-tokens_are : (items : List PlacedToken) → tokens_of (spots items) ≡ lexemes items
+pub tokens_are : (items : List PlacedToken) → tokens_of (spots items) ≡ lexemes items
 tokens_are [] = refl
 tokens_are (placed ∷ items) = ap (λ tokens. lexeme placed.token ∷ tokens) (tokens_are items)
 

@@ -1,6 +1,7 @@
 pub mod QueryShape
 pub mod Cut
 pub mod Demand
+pub mod Expected
 pub mod Frontier
 pub mod Grammar
 pub mod Items

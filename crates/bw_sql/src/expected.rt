@@ -1,336 +1,180 @@
-//! The tokens with which a statement can go on, by a table of the grammar.
-use crate::lexer::lex;
-use crate::token::{Mark, Token};
-use bw_text::Keyword;
-use std::alloc::{AllocError, Global};
+//! The tokens with which a statement can go on: those with which the parser reads on.
+ghost use Rattle.std.specs.Prelude.{◌≡◌, ℕ, List, Option, IfOk, IsOkUnless, IsTrue, OnOk, ◌↔◌, ◌++◌, ◌∷◌};
+ghost use Rattle.std.specs.Prelude.{[], Some, filter, slice_get};
+ghost use Rattle.std.specs.Option.{option_map};
+ghost use Rattle.bw_model.specs.Fault.{no_memory};
+ghost use Rattle.bw_model.specs.declared.schema.Schema.{Schema};
+ghost use Rattle.bw_sql.specs.declared.expected.TheConstants.{EXPECTED};
+ghost use Rattle.bw_sql.specs.declared.expected.Expected.{Expected};
+ghost use Rattle.bw_sql.specs.declared.expected.Expected.TheVariants.{End};
+ghost use Rattle.bw_sql.specs.Cut.{IsCut, Spot};
+ghost use Rattle.bw_sql.specs.Demand.{is_met};
+ghost use Rattle.bw_sql.specs.Expected.{is_expected, sample, unread};
+ghost use Rattle.bw_sql.specs.Frontier.{Viable};
+ghost use Rattle.bw_sql.specs.Grammar.{IsQuery};
+ghost use Rattle.bw_sql.specs.QueryShape.{QueryShape};
+ghost use Rattle.bw_sql.specs.Statement.{tokens_of};
+ghost use Rattle.bw_sql.specs.Token.{Lexeme, lexeme, lexemes};
 
-/// A token that may follow the beginning of a statement, or the statement's end. Names and digits
-/// are any.
+use crate::lexer::lex;
+use crate::reader::Stop;
+use crate::statement::statement;
+use crate::token::{Mark, PlacedToken, Token};
+use bw_model::{Fault, Op, Schema, code};
+use bw_text::Keyword;
+use std::alloc::Global;
+
+/// What may follow the beginning of a statement: a token of a kind, or the end.
 #[derive(Clone, Copy)]
 pub enum Expected {
     Keyword(Keyword),
     Mark(Mark),
     Comparison,
-    Name,
+    /// The table's name.
+    Table,
+    /// A column's name.
+    Column,
     Digits,
     End,
 }
 
-impl Expected {
-    /// Returns whether a token is of this kind.
-    fn admits(self, token: Token<'_>) -> bool {
-        match (self, token) {
-            (Expected::Keyword(word), Token::Keyword(found)) => found == word,
-            (Expected::Mark(mark), Token::Mark(found)) => found == mark,
-            (Expected::Comparison, Token::Compare(_)) => true,
-            (Expected::Name, Token::Name(_)) => true,
-            (Expected::Digits, Token::Digits(_)) => true,
-            _ => false,
-        }
-    }
-}
-
-/// A part of a statement that is still to come.
-#[derive(Clone, Copy, PartialEq, Eq)]
-enum Symbol {
-    Statement,
-    Items,
-    MoreColumns,
-    MoreAggregates,
-    Aggregate,
-    Counted,
-    From,
-    Name,
-    Where,
-    MoreTerms,
-    MoreFactors,
-    Not,
-    Primary,
-    Test,
-    TruthValue,
-    Predicate,
-    Range,
-    Operand,
-    MoreOperands,
-    Digits,
-    And,
-    Null,
-    Open,
-    Close,
-    Semicolon,
-}
-
-impl Symbol {
-    /// Returns whether a statement may do without the part.
-    fn is_optional(self) -> bool {
-        matches!(
-            self,
-            Symbol::MoreColumns
-                | Symbol::MoreAggregates
-                | Symbol::Where
-                | Symbol::MoreTerms
-                | Symbol::MoreFactors
-                | Symbol::Not
-                | Symbol::Test
-                | Symbol::MoreOperands
-                | Symbol::Semicolon
-        )
-    }
-
-    /// Returns the parts that are to come after a token that begins this one, if it does.
-    fn after(self, token: Token<'_>) -> Option<&'static [Symbol]> {
-        for (part, firsts, then) in &GRAMMAR {
-            if *part == self && firsts.iter().any(|first| first.admits(token)) {
-                return Some(then);
-            }
-        }
-        None
-    }
-}
-
-/// The parts of a condition.
-const CONDITION: [Symbol; 5] = [
-    Symbol::Not,
-    Symbol::Primary,
-    Symbol::Test,
-    Symbol::MoreFactors,
-    Symbol::MoreTerms,
-];
-
-/// The parts of a condition in brackets, after the opening one.
-const IN_BRACKETS: [Symbol; 6] = [
-    Symbol::Not,
-    Symbol::Primary,
-    Symbol::Test,
-    Symbol::MoreFactors,
-    Symbol::MoreTerms,
-    Symbol::Close,
-];
-
-/// The aggregates that have no `*`.
-const SUMS: [Expected; 3] = [
+/// All of these, in the order in which they are listed.
+const EXPECTED: [Expected; 29] = [
+    Expected::Keyword(Keyword::Select),
+    Expected::Keyword(Keyword::Count),
     Expected::Keyword(Keyword::Sum),
     Expected::Keyword(Keyword::Min),
     Expected::Keyword(Keyword::Max),
-];
-
-/// The beginnings of an operand without a sign, which are all of it.
-const UNSIGNED: [Expected; 3] = [
+    Expected::Keyword(Keyword::From),
+    Expected::Keyword(Keyword::Where),
+    Expected::Comparison,
+    Expected::Keyword(Keyword::Between),
+    Expected::Keyword(Keyword::In),
+    Expected::Keyword(Keyword::Is),
+    Expected::Keyword(Keyword::Not),
     Expected::Keyword(Keyword::Null),
-    Expected::Name,
-    Expected::Digits,
-];
-
-const SIGNS: [Expected; 2] = [Expected::Mark(Mark::Plus), Expected::Mark(Mark::Minus)];
-
-const TRUTH_VALUES: [Expected; 3] = [
     Expected::Keyword(Keyword::True),
     Expected::Keyword(Keyword::False),
     Expected::Keyword(Keyword::Unknown),
+    Expected::Keyword(Keyword::And),
+    Expected::Keyword(Keyword::Or),
+    Expected::Table,
+    Expected::Column,
+    Expected::Digits,
+    Expected::Mark(Mark::Plus),
+    Expected::Mark(Mark::Minus),
+    Expected::Mark(Mark::Star),
+    Expected::Mark(Mark::Open),
+    Expected::Mark(Mark::Close),
+    Expected::Mark(Mark::Comma),
+    Expected::Mark(Mark::Semicolon),
+    Expected::End,
 ];
 
-/// A part, tokens that begin it, and the parts that follow each of them.
-const GRAMMAR: [(Symbol, &[Expected], &[Symbol]); 37] = [
-    (
-        Symbol::Statement,
-        &[Expected::Keyword(Keyword::Select)],
-        &[
-            Symbol::Items,
-            Symbol::From,
-            Symbol::Name,
-            Symbol::Where,
-            Symbol::Semicolon,
-        ],
-    ),
-    (Symbol::Items, &[Expected::Mark(Mark::Star)], &[]),
-    (
-        Symbol::Items,
-        &[Expected::Keyword(Keyword::Count)],
-        &[
-            Symbol::Open,
-            Symbol::Counted,
-            Symbol::Close,
-            Symbol::MoreAggregates,
-        ],
-    ),
-    (
-        Symbol::Items,
-        &SUMS,
-        &[
-            Symbol::Open,
-            Symbol::Name,
-            Symbol::Close,
-            Symbol::MoreAggregates,
-        ],
-    ),
-    (Symbol::Items, &[Expected::Name], &[Symbol::MoreColumns]),
-    (
-        Symbol::MoreColumns,
-        &[Expected::Mark(Mark::Comma)],
-        &[Symbol::Name, Symbol::MoreColumns],
-    ),
-    (
-        Symbol::MoreAggregates,
-        &[Expected::Mark(Mark::Comma)],
-        &[Symbol::Aggregate, Symbol::MoreAggregates],
-    ),
-    (
-        Symbol::Aggregate,
-        &[Expected::Keyword(Keyword::Count)],
-        &[Symbol::Open, Symbol::Counted, Symbol::Close],
-    ),
-    (
-        Symbol::Aggregate,
-        &SUMS,
-        &[Symbol::Open, Symbol::Name, Symbol::Close],
-    ),
-    (
-        Symbol::Counted,
-        &[Expected::Mark(Mark::Star), Expected::Name],
-        &[],
-    ),
-    (Symbol::From, &[Expected::Keyword(Keyword::From)], &[]),
-    (Symbol::Name, &[Expected::Name], &[]),
-    (
-        Symbol::Where,
-        &[Expected::Keyword(Keyword::Where)],
-        &CONDITION,
-    ),
-    (
-        Symbol::MoreTerms,
-        &[Expected::Keyword(Keyword::Or)],
-        &CONDITION,
-    ),
-    (
-        Symbol::MoreFactors,
-        &[Expected::Keyword(Keyword::And)],
-        &[
-            Symbol::Not,
-            Symbol::Primary,
-            Symbol::Test,
-            Symbol::MoreFactors,
-        ],
-    ),
-    (Symbol::Not, &[Expected::Keyword(Keyword::Not)], &[]),
-    (Symbol::Primary, &[Expected::Mark(Mark::Open)], &IN_BRACKETS),
-    (Symbol::Primary, &UNSIGNED, &[Symbol::Predicate]),
-    (
-        Symbol::Primary,
-        &SIGNS,
-        &[Symbol::Digits, Symbol::Predicate],
-    ),
-    (
-        Symbol::Test,
-        &[Expected::Keyword(Keyword::Is)],
-        &[Symbol::Not, Symbol::TruthValue],
-    ),
-    (Symbol::TruthValue, &TRUTH_VALUES, &[]),
-    (
-        Symbol::Predicate,
-        &[Expected::Comparison],
-        &[Symbol::Operand],
-    ),
-    (
-        Symbol::Predicate,
-        &[Expected::Keyword(Keyword::Between)],
-        &[Symbol::Operand, Symbol::And, Symbol::Operand],
-    ),
-    (
-        Symbol::Predicate,
-        &[Expected::Keyword(Keyword::In)],
-        &[
-            Symbol::Open,
-            Symbol::Operand,
-            Symbol::MoreOperands,
-            Symbol::Close,
-        ],
-    ),
-    (
-        Symbol::Predicate,
-        &[Expected::Keyword(Keyword::Is)],
-        &[Symbol::Not, Symbol::Null],
-    ),
-    (
-        Symbol::Predicate,
-        &[Expected::Keyword(Keyword::Not)],
-        &[Symbol::Range],
-    ),
-    (
-        Symbol::Range,
-        &[Expected::Keyword(Keyword::Between)],
-        &[Symbol::Operand, Symbol::And, Symbol::Operand],
-    ),
-    (
-        Symbol::Range,
-        &[Expected::Keyword(Keyword::In)],
-        &[
-            Symbol::Open,
-            Symbol::Operand,
-            Symbol::MoreOperands,
-            Symbol::Close,
-        ],
-    ),
-    (Symbol::Operand, &UNSIGNED, &[]),
-    (Symbol::Operand, &SIGNS, &[Symbol::Digits]),
-    (
-        Symbol::MoreOperands,
-        &[Expected::Mark(Mark::Comma)],
-        &[Symbol::Operand, Symbol::MoreOperands],
-    ),
-    (Symbol::Digits, &[Expected::Digits], &[]),
-    (Symbol::And, &[Expected::Keyword(Keyword::And)], &[]),
-    (Symbol::Null, &[Expected::Keyword(Keyword::Null)], &[]),
-    (Symbol::Open, &[Expected::Mark(Mark::Open)], &[]),
-    (Symbol::Close, &[Expected::Mark(Mark::Close)], &[]),
-    (Symbol::Semicolon, &[Expected::Mark(Mark::Semicolon)], &[]),
-];
-
-/// Returns the tokens with which a statement can go on after the longest beginning of a text with
-/// which some statement begins; its end too, if that beginning is a statement. Names, numbers and
-/// levels of brackets aren't looked at.
-pub fn expected_tokens(alloc: Global, text: &[u8]) -> Result<Vec<Expected>, AllocError> {
-    let lexed = lex(alloc, text)?;
-    let mut parts = vec![in alloc; Symbol::Statement]?;
-    for placed in &lexed.tokens {
-        if !goes_on(&mut parts, placed.token)? {
-            break;
+impl Expected {
+    /// Returns a token of this kind: of columns the name of the first, of numbers 0. The end has
+    /// none.
+    fn sample(self, schema: &Schema) -> Option<Token<'_>>
+        ensures { option_map lexeme result ≡ sample schema.now self }
+    {
+        match self {
+            Expected::Keyword(word) => Some(Token::Keyword(word)),
+            Expected::Mark(mark) => Some(Token::Mark(mark)),
+            Expected::Comparison => Some(Token::Compare(Op::Eq)),
+            Expected::Table => Some(Token::Name(schema.name.as_bytes())),
+            Expected::Column => Some(Token::Name(schema.columns[0].name.as_bytes())),
+            Expected::Digits => Some(Token::Digits(b"0")),
+            Expected::End => None,
         }
     }
-    beginnings(alloc, &parts)
 }
 
-/// Replaces the last of the parts to come, which is the next one, by those after a token. Returns
-/// whether the token can be the next one.
-fn goes_on(parts: &mut Vec<Symbol>, token: Token<'_>) -> Result<bool, AllocError> {
-    for left in (0..parts.len()).rev() {
-        let part = parts[left];
-        if let Some(then) = part.after(token) {
-            parts.truncate(left);
-            for part in then.iter().rev() {
-                parts.push(*part)?;
-            }
-            return Ok(true);
-        }
-        if !part.is_optional() {
-            break;
-        }
-    }
-    Ok(false)
+/// Returns what may follow the tokens of a text, up to a byte that begins none: each kind of token
+/// with which some statement under the schema begins with them, and the end if they are one. A kind
+/// stands for the sample that the parser reads, so names and numbers are any.
+///
+/// Errors: 801 if memory is refused.
+pub fn expected_tokens<'a>(
+    alloc: Global,
+    schema: &'a Schema,
+    text: &'a [u8],
+) -> Result<Vec<Expected>, Fault>
+    ensures listed { IfOk result (λ found. (tokens : List Spot) × (stop : Option ℕ)
+        × IsCut 0 text.now tokens stop
+        × (found.items ≡ filter (is_expected schema.now (tokens_of tokens)) EXPECTED)) }
+    ensures only_oom { IsOkUnless result no_memory }
+{
+    let mut lexed = lex(alloc, text)?;
+    list_expected(alloc, schema, &EXPECTED, &mut lexed.tokens)
 }
 
-/// Returns the tokens with which the parts to come can begin.
-fn beginnings(alloc: Global, parts: &[Symbol]) -> Result<Vec<Expected>, AllocError> {
+/// A law: what is expected after tokens is what some statement has there, and each kind is tried.
+#[tactic(auto, using(crate::proofs::Expectations::tried))]
+pub fn what_is_expected_goes_on()
+    ensures goes_on { (schema : Schema) (tokens : List Lexeme) (expected : Expected) (t : Lexeme)
+        → sample schema expected ≡ Some t → IsTrue (is_expected schema tokens expected)
+        ↔ Viable schema (is_met schema) (tokens ++ t ∷ []) }
+    ensures ends { (schema : Schema) (tokens : List Lexeme)
+        → IsTrue (is_expected schema tokens End)
+        ↔ ((query : QueryShape) × IsQuery schema tokens query) }
+    ensures tried { (expected : Expected) → (at : ℕ) × (slice_get EXPECTED at ≡ Some expected) }
+{}
+
+/// Returns which of these may follow tokens, which stay as they are.
+fn list_expected<'a>(
+    alloc: Global,
+    schema: &'a Schema,
+    kinds: &[Expected],
+    tokens: &mut Vec<PlacedToken<'a>>,
+) -> Result<Vec<Expected>, Fault>
+    ensures listed { IfOk result (λ found. found.items
+        ≡ filter (is_expected schema.now (lexemes tokens.old.items)) kinds.now) }
+    ensures only_oom { IsOkUnless result no_memory }
+{
     let mut found = Vec::new(alloc);
-    for next in parts.iter().rev() {
-        for (part, firsts, _) in &GRAMMAR {
-            if part == next {
-                found.extend_from_slice(firsts)?;
-            }
-        }
-        if !next.is_optional() {
-            return Ok(found);
+    for expected in kinds {
+        if is_expected(alloc, schema, *expected, tokens)? {
+            found.push(*expected)?;
         }
     }
-    found.push(Expected::End)?;
     Ok(found)
+}
+
+/// Returns whether this may follow tokens, which stay as they are unless memory is refused.
+fn is_expected<'a>(
+    alloc: Global,
+    schema: &'a Schema,
+    expected: Expected,
+    tokens: &mut Vec<PlacedToken<'a>>,
+) -> Result<bool, Fault>
+    ensures is { IfOk result
+        (λ is. is ≡ is_expected schema.now (lexemes tokens.old.items) expected) }
+    ensures same { OnOk result (tokens.new.items ≡ tokens.old.items) }
+    ensures only_oom { IsOkUnless result no_memory }
+{
+    match expected.sample(schema) {
+        None => Ok(unread(alloc, schema, tokens)?.is_none()),
+        Some(token) => {
+            tokens.push(PlacedToken { token, at: 0 })?;
+            let left = unread(alloc, schema, tokens)?;
+            tokens.pop();
+            Ok(left.unwrap_or(0) == 0)
+        }
+    }
+}
+
+/// Returns how many tokens are left where the parser stops, or none if they are a statement.
+fn unread(
+    alloc: Global,
+    schema: &Schema,
+    tokens: &[PlacedToken<'_>],
+) -> Result<Option<usize>, Fault>
+    ensures left { IfOk result (λ left. left ≡ unread schema.now (lexemes tokens.now)) }
+    ensures only_oom { IsOkUnless result no_memory }
+{
+    match statement(alloc, schema, tokens) {
+        Ok(_) => Ok(None),
+        Err(Stop::Refused { left, .. }) => Ok(Some(left)),
+        Err(Stop::OutOfMemory) => Err(Fault::new(code::OUT_OF_MEMORY)),
+    }
 }

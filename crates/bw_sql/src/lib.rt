@@ -52,7 +52,7 @@ use crate::lexer::{Lexed, lex};
 use crate::reader::Stop;
 use crate::statement::statement;
 use bw_model::{Fault, Query, Schema, code};
-pub use expected::{Expected, expected_tokens};
+pub use expected::{Expected, expected_tokens, what_is_expected_goes_on};
 pub use lexer::has_no_token;
 use std::alloc::Global;
 pub use token::Mark;
