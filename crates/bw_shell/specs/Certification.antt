@@ -8,7 +8,7 @@ use Rattle.bw_model.specs.declared.fault.Fault.{Fault}
 use Rattle.bw_model.specs.declared.query.Query.{Query}
 use Rattle.bw_model.specs.declared.schema.Schema.{Schema}
 use Rattle.bw_model.specs.Fault.{is_memory, at_line}
-use Rattle.bw_model.specs.SchemaText.{schema_of, schema_shape, IsSchemaText}
+use Rattle.bw_model.specs.SchemaText.{schema_shape, IsSchemaText}
 use Rattle.bw_text.specs.Lines.{NumberedWords, end_in, lines_in, whole}
 use Rattle.bw_program.specs.Program.{ProgramShape}
 use Rattle.bw_program.specs.ProgramText.{program_of, is_program_fault, IsProgramText}
@@ -16,6 +16,7 @@ use Rattle.bw_cert_text.specs.CertificateShape.{CertificateShape}
 use Rattle.bw_cert.specs.FileVerdict.{Certifies}
 use Rattle.bw_cert.specs.ProgramFile.{IsCut}
 use Rattle.bw_sql.specs.Statement.{IsReadAs}
+use Rattle.bw_shell.specs.ParsedStatement.{IsStatementRefusal}
 use Rattle.bw_shell.specs.Plan.{IsPrinted}
 
 -- The file is the printed text of the program that a text spells before its line CERTIFICATE, that
@@ -77,10 +78,7 @@ pub record IsCertification (schema_text sql text file : List ℕ) : Type 0 where
 
 -- the schema text's error; else the statement's under the schema; else that of the program
 pub data IsCertificationFault (schema_text sql text : List ℕ) : Fault → Type 0 where
-  schema_refused : {fault : Fault} → schema_of schema_text ≡ Err fault →
-      IsCertificationFault schema_text sql text fault
-  statement_refused : {schema : Schema} {fault : Fault} →
-      IsSchemaText schema_text (schema_shape schema) → IsReadAs schema sql (Err fault) →
+  text_refused : {fault : Fault} → IsStatementRefusal schema_text sql fault →
       IsCertificationFault schema_text sql text fault
   uncertified : {schema : Schema} {fault : Fault} (query : Query) →
       IsSchemaText schema_text (schema_shape schema) → IsReadAs schema sql (Ok query) →

@@ -1,3 +1,4 @@
+pub mod ParsedStatement
 pub mod CheckText
 pub mod Plan
 pub mod Certification

@@ -6,7 +6,7 @@ use Rattle.bw_model.specs.declared.fault.Fault.{Fault}
 use Rattle.bw_model.specs.declared.query.Query.{Query}
 use Rattle.bw_model.specs.declared.schema.Schema.{Schema}
 use Rattle.bw_model.specs.Fault.{is_memory, nowhere}
-use Rattle.bw_model.specs.SchemaText.{schema_of, schema_shape, IsSchemaText}
+use Rattle.bw_model.specs.SchemaText.{schema_shape, IsSchemaText}
 use Rattle.bw_program.specs.PrintText as program_text
 use Rattle.bw_program.specs.Program.{ProgramShape}
 use Rattle.bw_program.specs.ProgramText.{IsProgramText}
@@ -17,6 +17,7 @@ use Rattle.bw_cert_text.specs.PrintText as certificate_text
 use Rattle.bw_cert_text.specs.Reprint.{renumber}
 use Rattle.bw_cert.specs.FileVerdict.{Certifies}
 use Rattle.bw_sql.specs.Statement.{IsReadAs}
+use Rattle.bw_shell.specs.ParsedStatement.{IsStatementRefusal}
 
 -- The file is the printed text of a program, the line CERTIFICATE, and the printed text of a
 -- certificate. The first text spells that program. The second spells that certificate, in the
@@ -51,9 +52,7 @@ pub record IsPlan (text sql file : List ℕ) : Type 0 where
 
 -- the schema text's error; else the statement's under the schema; else that there is no plan
 pub data IsPlanFault (text sql : List ℕ) : Fault → Type 0 where
-  schema_refused : {fault : Fault} → schema_of text ≡ Err fault → IsPlanFault text sql fault
-  statement_refused : {schema : Schema} {fault : Fault} → IsSchemaText text (schema_shape schema) →
-      IsReadAs schema sql (Err fault) → IsPlanFault text sql fault
+  text_refused : {fault : Fault} → IsStatementRefusal text sql fault → IsPlanFault text sql fault
   unplanned : {schema : Schema} (query : Query) → IsSchemaText text (schema_shape schema) →
       IsReadAs schema sql (Ok query) → IsPlanFault text sql (nowhere NO_PROGRAM)
 

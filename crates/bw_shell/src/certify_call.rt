@@ -16,12 +16,12 @@ ghost use Rattle.bw_shell.specs.Certification.{is_certification_fault, IsNotFoun
 ghost use Rattle.bw_shell.specs.Plan.{IsPrintedFrom};
 
 use crate::plan_call::file_of;
+use crate::statement::parse_statement;
 use bw_cert::{check_file, split_file};
 use bw_io::{Sink, write_whole};
 use bw_model::{Cond, Fault, Schema, code};
 use bw_program::Program;
 use bw_prover::{MAX_PRODUCTS, Unproved, prove};
-use bw_sql::parse;
 use bw_text::Lines;
 use std::alloc::{AllocError, Global};
 
@@ -46,9 +46,8 @@ pub fn certify_text<K: Sink>(
         × IsCertified schema.now sql.now program.now given
         × WriteOutcome none_aside (K.state sink.old) (K.state sink.new) given result }
 {
-    let schema = Schema::parse(alloc, schema)?;
-    let query = parse(alloc, &schema, sql)?;
-    let file = certified_file(alloc, &schema, &query.cond, program)?;
+    let parsed = parse_statement(alloc, schema, sql)?;
+    let file = certified_file(alloc, &parsed.schema, &parsed.query.cond, program)?;
     write_whole(sink, &file)
 }
 

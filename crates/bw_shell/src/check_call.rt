@@ -9,9 +9,9 @@ ghost use Rattle.bw_shell.specs.CheckText.{IsAccepted, IsCheckFault};
 ghost use Rattle.bw_cert.specs.declared.accepted.Accepted.{Accepted as Numbers};
 ghost use Rattle.bw_cert.specs.FileVerdict.{Certifies, IsFileFault, counts_of};
 
+use crate::statement::parse_statement;
 use bw_cert::{Accepted, check_file};
 use bw_model::{Cond, Fault, Schema};
-use bw_sql::parse;
 use std::alloc::Global;
 
 /// Checks a program file for the condition of a statement, under the schema of a schema text.
@@ -19,7 +19,7 @@ use std::alloc::Global;
 ///
 /// Errors, in this order: the schema text's (106, 101 to 105), the statement's (401 to 408), and
 /// the file's, as of [`check_file`]. 801 at any time, if memory is refused.
-#[tactic(auto, using(crate::specs::CheckText::schema_refused, crate::specs::CheckText::statement_refused, crate::specs::CheckText::file_refused))]
+#[tactic(auto, using(crate::specs::CheckText::text_refused, crate::specs::CheckText::file_refused))]
 pub fn check_text(alloc: Global, schema: &[u8], sql: &[u8], file: &[u8]) -> Result<Accepted, Fault>
     ensures accepted { IfOk result (λ accepted. IsAccepted schema.now sql.now file.now accepted) }
     ensures accepts { (accepted : Numbers) → IsAccepted schema.now sql.now file.now accepted
@@ -27,9 +27,8 @@ pub fn check_text(alloc: Global, schema: &[u8], sql: &[u8], file: &[u8]) -> Resu
     ensures fault { IfErr result (λ fault. is_memory fault ≡ false
         → IsCheckFault schema.now sql.now file.now fault) }
 {
-    let schema = Schema::parse(alloc, schema)?;
-    let query = parse(alloc, &schema, sql)?;
-    numbers(alloc, &schema, &query.cond, file)
+    let parsed = parse_statement(alloc, schema, sql)?;
+    numbers(alloc, &parsed.schema, &parsed.query.cond, file)
 }
 
 /// Returns the numbers of a program file that is certified for the condition.

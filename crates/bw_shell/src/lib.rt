@@ -24,6 +24,7 @@ mod certify_call;
 mod check_call;
 mod encode_call;
 mod plan_call;
+mod statement;
 
 pub use bw_cert::{Accepted, MAX_PROGRAM_FILE_LEN, ProgramFile, split_file};
 pub use bw_csv_calls::{direct, infer, info, load};

@@ -13,13 +13,13 @@ ghost use Rattle.bw_cert.specs.FileVerdict.{Certifies};
 ghost use Rattle.bw_io.specs.Sink.{WriteOutcome, none_aside};
 ghost use Rattle.bw_shell.specs.Plan.{IsPlanned, IsPrinted, IsPrintedFrom};
 
+use crate::statement::parse_statement;
 use bw_cert::check_file;
 use bw_cert_text::Certificate;
 use bw_io::{Sink, write_whole};
 use bw_model::{Cond, Fault, Schema, code};
 use bw_plan::{Proposal, propose};
 use bw_program::Program;
-use bw_sql::parse;
 use std::alloc::Global;
 
 /// Plans a statement under the schema of a schema text, and writes the program file: the text of a
@@ -29,7 +29,6 @@ use std::alloc::Global;
 /// Errors, in this order: the schema text's (106, 101 to 105), the statement's (401 to 408), 651 if
 /// the planner has no program that the checker accepts, and the sink's (702); 801 at any time, if
 /// memory is refused. The sink's count of errors must be able to rise.
-#[tactic(auto, using(crate::specs::Plan::schema_refused, crate::specs::Plan::statement_refused, crate::specs::Plan::unplanned))]
 pub fn plan_text<K: Sink>(
     alloc: Global,
     schema: &[u8],
@@ -40,9 +39,8 @@ pub fn plan_text<K: Sink>(
     ensures planned { (given : Result (List ℕ) Fault) × IsPlanned schema.now sql.now given
         × WriteOutcome none_aside (K.state sink.old) (K.state sink.new) given result }
 {
-    let schema = Schema::parse(alloc, schema)?;
-    let query = parse(alloc, &schema, sql)?;
-    let file = plan_of(alloc, &schema, &query.cond)?;
+    let parsed = parse_statement(alloc, schema, sql)?;
+    let file = plan_of(alloc, &parsed.schema, &parsed.query.cond)?;
     write_whole(sink, &file)
 }
 

@@ -3,30 +3,24 @@ use Rattle.std.proofs.Common.{List, ℕ, Result, Ok, Err, refl}
 use Rattle.bw_model.proofs.ErrLemmas.{err_passed_on}
 use Rattle.bw_model.specs.declared.fault.Fault.{Fault}
 use Rattle.bw_io.proofs.SinkLemmas.{no_write_fault}
-use Rattle.bw_shell.specs.Certification.{schema_refused, statement_refused, uncertified}
-use Rattle.bw_shell.specs.Certification.{is_certification_fault}
-use Rattle.bw_query.proofs.TableExits.{refused, schema_writes_nothing, statement_writes_nothing}
-use Rattle.bw_query.proofs.TableExits.{went}
+use Rattle.bw_shell.specs.Certification.{is_certification_fault, text_refused, uncertified}
+use Rattle.bw_query.proofs.TableExits.{refused, went}
 use Rattle.bw_shell.proofs.certify_call.certify_text.Goals as goal
 
-pub returns-in_err-schema : goal.returns-in_err-schema
-returns-in_err-schema g c =
-    let given : Result (List ℕ) Fault = Err c.in_err-schema.field-0.0 in
-    rw (err_passed_on _ c.from_residual.ensures.1) (record { certified = (given, λ own. schema_refused (c.in_err-schema.ensures.fault own), refused (Unit {0}) _ _ (schema_writes_nothing _ c.in_err-schema.ensures.code)) })
-
-pub returns-in_err-query : goal.returns-in_err-query
-returns-in_err-query g c =
-    let given : Result (List ℕ) Fault = Err c.in_err-query.field-0.0 in
-    rw (err_passed_on _ c.from_residual-in_err-query.ensures.1) (record { certified = (given, λ own. statement_refused c.in_ok-schema.ensures.spelled (c.in_err-query.ensures.read own), refused (Unit {0}) _ _ (statement_writes_nothing _ c.in_err-query.ensures.fault)) })
+pub returns-in_err-parsed : goal.returns-in_err-parsed
+returns-in_err-parsed g c =
+    let given : Result (List ℕ) Fault = Err c.in_err-parsed.field-0.0 in
+    rw (err_passed_on _ c.from_residual.ensures.1) (record { certified = (given, λ own. text_refused (c.in_err-parsed.ensures.fault own), refused (Unit {0}) _ _ c.in_err-parsed.ensures.code) })
 
 pub returns-in_err-file : goal.returns-in_err-file
 returns-in_err-file g c =
     let fault = c.in_err-file.field-0.0 in
     let given : Result (List ℕ) Fault = Err fault in
+    let read = c.in_ok-parsed.ensures.read in
     rw (err_passed_on _ c.from_residual-in_err-file.ensures.1) (record {
       certified = (
         given,
-        λ own. uncertified c.in_ok-query.query c.in_ok-schema.ensures.spelled c.in_ok-query.ensures.read (c.in_err-file.ensures.fault own),
+        λ own. uncertified c.in_ok-parsed.parsed.query read.spelled read.asked (c.in_err-file.ensures.fault own),
         refused (Unit {0}) _ _ (no_write_fault is_certification_fault fault c.in_err-file.ensures.code refl),
       );
     })
@@ -39,10 +33,10 @@ returns g c =
       certified = (
         given,
         record {
-          schema = c.in_ok-schema.schema;
-          query = c.in_ok-query.query;
-          spelled = c.in_ok-schema.ensures.spelled;
-          asked = c.in_ok-query.ensures.read;
+          schema = c.in_ok-parsed.parsed.schema;
+          query = c.in_ok-parsed.parsed.query;
+          spelled = c.in_ok-parsed.ensures.read.spelled;
+          asked = c.in_ok-parsed.ensures.read.asked;
           made = c.in_ok-file.ensures.made;
         },
         went (Unit {0}) _ _ _ c.write_whole.result goes,

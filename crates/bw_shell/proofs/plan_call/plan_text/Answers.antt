@@ -2,30 +2,25 @@
 use Rattle.std.proofs.Common.{List, ℕ, Result, Ok, Err, subst, sym}
 use Rattle.bw_model.proofs.ErrLemmas.{err_passed_on}
 use Rattle.bw_model.specs.declared.fault.Fault.{Fault}
-use Rattle.bw_shell.specs.Plan.{IsPlanFault, schema_refused, statement_refused, unplanned}
-use Rattle.bw_query.proofs.TableExits.{refused, schema_writes_nothing, statement_writes_nothing}
-use Rattle.bw_query.proofs.TableExits.{unplanned_writes_nothing, went}
+use Rattle.bw_query.proofs.TableExits.{refused, unplanned_writes_nothing, went}
+use Rattle.bw_shell.specs.Plan.{IsPlanFault, text_refused, unplanned}
 use Rattle.bw_shell.proofs.plan_call.plan_text.Goals as goal
 
-pub returns-in_err-schema : goal.returns-in_err-schema
-returns-in_err-schema g c =
-    let given : Result (List ℕ) Fault = Err c.in_err-schema.field-0.0 in
-    rw (err_passed_on _ c.from_residual.ensures.1) (record { planned = (given, λ own. schema_refused (c.in_err-schema.ensures.fault own), refused (Unit {0}) _ _ (schema_writes_nothing _ c.in_err-schema.ensures.code)) })
-
-pub returns-in_err-query : goal.returns-in_err-query
-returns-in_err-query g c =
-    let given : Result (List ℕ) Fault = Err c.in_err-query.field-0.0 in
-    rw (err_passed_on _ c.from_residual-in_err-query.ensures.1) (record { planned = (given, λ own. statement_refused c.in_ok-schema.ensures.spelled (c.in_err-query.ensures.read own), refused (Unit {0}) _ _ (statement_writes_nothing _ c.in_err-query.ensures.fault)) })
+pub returns-in_err-parsed : goal.returns-in_err-parsed
+returns-in_err-parsed g c =
+    let given : Result (List ℕ) Fault = Err c.in_err-parsed.field-0.0 in
+    rw (err_passed_on _ c.from_residual.ensures.1) (record { planned = (given, λ own. text_refused (c.in_err-parsed.ensures.fault own), refused (Unit {0}) _ _ c.in_err-parsed.ensures.code) })
 
 pub returns-in_err-file : goal.returns-in_err-file
 returns-in_err-file g c =
     let fault = c.in_err-file.field-0.0 in
     let given : Result (List ℕ) Fault = Err fault in
     let F : Fault → Type 0 = λ refused. IsPlanFault c.args.schema.now c.args.sql.now refused in
+    let read = c.in_ok-parsed.ensures.read in
     rw (err_passed_on _ c.from_residual-in_err-file.ensures.1) (record {
       planned = (
         given,
-        λ own. subst F (sym (c.in_err-file.ensures.fault own)) (unplanned c.in_ok-query.query c.in_ok-schema.ensures.spelled c.in_ok-query.ensures.read),
+        λ own. subst F (sym (c.in_err-file.ensures.fault own)) (unplanned c.in_ok-parsed.parsed.query read.spelled read.asked),
         refused (Unit {0}) _ _ (unplanned_writes_nothing fault c.in_err-file.ensures.fault),
       );
     })
@@ -39,12 +34,12 @@ returns g c =
       planned = (
         given,
         record {
-          schema = c.in_ok-schema.schema;
-          query = c.in_ok-query.query;
+          schema = c.in_ok-parsed.parsed.schema;
+          query = c.in_ok-parsed.parsed.query;
           program = certifies.0;
           certificate = certifies.1;
-          spelled = c.in_ok-schema.ensures.spelled;
-          asked = c.in_ok-query.ensures.read;
+          spelled = c.in_ok-parsed.ensures.read.spelled;
+          asked = c.in_ok-parsed.ensures.read.asked;
           printed = c.in_ok-file.ensures.printed;
           certifies = certifies.2;
         },
