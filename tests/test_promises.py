@@ -37,7 +37,7 @@ WORD, STRING = re.compile(r"\w+"), re.compile(r'b?"(?:\\.|[^"\\])*"')
 CALL = re.compile(r"\b(\w+)\s*(?:::<[^>]*>)?\(")
 BOUND = re.compile(r"(?:\blet|\bfor|\|)\s*(?:mut )?(\w+)")
 # calls of std that only edits make
-STD = {"from_be_bytes", "is_none_or", "last_mut", "reverse", "simd_le", "simd_ne",
+STD = {"from_be_bytes", "is_none_or", "last_mut", "map_err", "reverse", "simd_le", "simd_ne",
        "to_ascii_uppercase", "wrapping_sub"}
 THEOREM = ROOT / "docs" / "THEOREM.md"
 # a piece of a source, with its file, and a file with its number of lines

@@ -1,4 +1,8 @@
 //! A command and its arguments.
+ghost use Rattle.std.specs.Prelude.{◌≡◌};
+ghost use Rattle.bw_cli.specs.Arguments.{csv_of, name_of, numbers_of, out_of, program_of};
+ghost use Rattle.bw_cli.specs.Arguments.{schema_of, sql_of, table_of, usage_of};
+
 use bw_file::Layout;
 
 /// The options of `bw encode` that name marks of a CSV text, as they were given, and whether text
@@ -88,7 +92,9 @@ pub enum CommandArgs<'a> {
 
 impl<'a> CommandArgs<'a> {
     /// Returns the file that SCHEMA names, if the command has this argument.
-    pub fn schema(self) -> Option<&'a str> {
+    pub fn schema(self) -> Option<&'a str>
+        ensures { result ≡ schema_of self.entry }
+    {
         match self {
             CommandArgs::Direct { schema, .. }
             | CommandArgs::Load { schema, .. }
@@ -101,7 +107,9 @@ impl<'a> CommandArgs<'a> {
     }
 
     /// Returns the file that CSV names, if the command has this argument.
-    pub fn csv(self) -> Option<&'a str> {
+    pub fn csv(self) -> Option<&'a str>
+        ensures { result ≡ csv_of self.entry }
+    {
         match self {
             CommandArgs::Direct { csv, .. }
             | CommandArgs::Infer { csv, .. }
@@ -112,7 +120,9 @@ impl<'a> CommandArgs<'a> {
     }
 
     /// Returns the table file that is read.
-    pub fn table(self) -> Option<&'a str> {
+    pub fn table(self) -> Option<&'a str>
+        ensures { result ≡ table_of self.entry }
+    {
         match self {
             CommandArgs::Query { table, .. }
             | CommandArgs::Recode { table, .. }
@@ -124,7 +134,9 @@ impl<'a> CommandArgs<'a> {
     }
 
     /// Returns the file of a program that is read, with or without its certificate.
-    pub fn program(self) -> Option<&'a str> {
+    pub fn program(self) -> Option<&'a str>
+        ensures { result ≡ program_of self.entry }
+    {
         match self {
             CommandArgs::Query { program, .. } => program,
             CommandArgs::Certify { program, .. } => Some(program),
@@ -134,7 +146,9 @@ impl<'a> CommandArgs<'a> {
     }
 
     /// Returns the file that NUMBERS names, if the command has this argument.
-    pub fn numbers(self) -> Option<&'a str> {
+    pub fn numbers(self) -> Option<&'a str>
+        ensures { result ≡ numbers_of self.entry }
+    {
         match self {
             CommandArgs::Recode { numbers, .. } => Some(numbers),
             _ => None,
@@ -142,7 +156,9 @@ impl<'a> CommandArgs<'a> {
     }
 
     /// Returns the text that SQL stands for, if the command has this argument.
-    pub fn sql(self) -> Option<&'a str> {
+    pub fn sql(self) -> Option<&'a str>
+        ensures { result ≡ sql_of self.entry }
+    {
         match self {
             CommandArgs::Direct { sql, .. }
             | CommandArgs::Query { sql, .. }
@@ -154,7 +170,9 @@ impl<'a> CommandArgs<'a> {
     }
 
     /// Returns the table name that the command line gives, if it gives one.
-    pub fn name(self) -> Option<&'a str> {
+    pub fn name(self) -> Option<&'a str>
+        ensures { result ≡ name_of self.entry }
+    {
         match self {
             CommandArgs::Infer { name, .. } => name,
             _ => None,
@@ -162,7 +180,9 @@ impl<'a> CommandArgs<'a> {
     }
 
     /// Returns the command's name and its arguments in order, as the help prints them.
-    pub fn usage(self) -> &'static str {
+    pub fn usage(self) -> &'static str
+        ensures { result.now ≡ usage_of self.entry }
+    {
         match self {
             CommandArgs::Direct { .. } => "bw direct SCHEMA CSV SQL",
             CommandArgs::Infer { .. } => "bw infer [--table NAME] CSV",
@@ -180,7 +200,9 @@ impl<'a> CommandArgs<'a> {
     }
 
     /// Returns the file that is written.
-    pub fn out(self) -> Option<&'a str> {
+    pub fn out(self) -> Option<&'a str>
+        ensures { result ≡ out_of self.entry }
+    {
         match self {
             CommandArgs::Load { out, .. }
             | CommandArgs::Encode { out, .. }
