@@ -209,10 +209,10 @@ class Encoded(TestCase):
                     self.assertEqual(found, counted)
 
     def test_comments(self) -> None:
-        """The last line without a line end is a record of one empty field."""
+        """One without a line feed is a record of one empty field."""
         folder = self.new_folder()
-        for text, rows in (("#b\na\n1\n#2\n", ["1"]), ("a\n1\n#2\r", ["1"]),
-                           ("a\n1\n#2", ["1", "NULL"])):
+        for text, rows in (("#b\na\n1\n#2\n", ["1"]), ("a\n1\n#2\r3\n4\n", ["1", "4"]),
+                           ("a\n1\n#2", ["1", "NULL"]), ("a\n1\n#2\r3", ["1", "NULL"])):
             (folder / "text.csv").write_bytes(text.encode())
             done = bw("encode", "--comment", "#", "text.csv", "t.bw", "fields", cwd=folder)
             self.assertEqual(done, (0, "", ""), text)
