@@ -16,7 +16,7 @@ from .._csv.dialect import BLANKS
 from .._types.base import GREATEST, LEAST
 from .._types.number_format import is_grouped
 from .._types.temporal import plain_times
-from ..loader.dictionary import Block, Dictionary, texts_of
+from ..loader.dictionary import Block, Dictionary, encoded, texts_of
 from .options import NULLS, ColumnOptions
 
 
@@ -428,18 +428,18 @@ class Fields:
         own."""
         assert self.dictionary is not None
         has_null, (first, last) = False, block.ends
-        for word, encoded in self.sought.items():
+        for word, wanted in self.sought.items():
             places: Iterable[int] = ()
             if is_padded:
                 places = [place for place, field in enumerate(block.fields)
-                          if field.strip(b" \t") == encoded]
-            elif first <= encoded <= last:
-                place = bisect.bisect_left(block.fields, encoded)
-                places = [place] if block.fields[place] == encoded else []
+                          if field.strip(b" \t") == wanted]
+            elif first <= wanted <= last:
+                place = bisect.bisect_left(block.fields, wanted)
+                places = [place] if block.fields[place] == wanted else []
             if places:
                 found = sum(self.dictionary.counts[block.first + place] for place in places)
                 self.words[word] = self.words.get(word, 0) + found
-                has_null = has_null or encoded in self.plain.words
+                has_null = has_null or wanted in self.plain.words
         return has_null
 
     def run_of(self, parts: list[Part], block: Block) -> Run:
@@ -468,7 +468,7 @@ class Fields:
     @functools.cached_property
     def sought(self) -> dict[str, bytes]:
         """The words that may be null, and their bytes."""
-        return {word: word.encode() for word in (*self.options.words, *NULLS)}
+        return {word: encoded(word) for word in (*self.options.words, *NULLS)}
 
     def texts(self, part: Part) -> list[str]:
         """Returns the texts of a part as they are."""

@@ -179,6 +179,11 @@ def breaks_in(data: bytes) -> int:
     return found if b"\r" not in data else found + data.count(b"\r") - data.count(b"\r\n")
 
 
+def encoded(word: str) -> bytes:
+    """Returns the bytes of a word, which may have odd bytes of an argument, as no field has."""
+    return word.encode("utf-8", "surrogateescape")
+
+
 def texts_of(fields: Sequence[bytes]) -> List[str]:
     """Returns fields as texts. Raises UnicodeDecodeError if one isn't UTF-8."""
     # faster than to decode each, unless one has a NUL

@@ -30,7 +30,7 @@ from .._types.number_format import SIMPLE
 from .._types.numbers import LEAST_BITS, Decimals, Floats, Ranked
 from .._types.temporal import Times
 from . import encode
-from .dictionary import ByteFile, Dictionary, merge, texts_of
+from .dictionary import ByteFile, Dictionary, encoded, merge, texts_of
 from .encode import CodedFile, CodedPart, Coder, check
 
 
@@ -513,7 +513,7 @@ def plain_of(options: ColumnOptions) -> Plain:
     own = (options.form is not None or options.is_text or options.digits is not None or
            options.rules.keeps_blanks)
     comma = "," if options.rules.separator != "," or options.is_number else ""
-    words = {word.encode(): place for place, word in enumerate(options.words, 1)}
+    words = {encoded(word): place for place, word in enumerate(options.words, 1)}
     return Plain(words, "" if own or options.rules.thousands else f".{comma}")
 
 
