@@ -141,7 +141,8 @@ class Plain:
         have a null are a word for it."""
         bare, padded = without_blanks(block.fields) if is_padded else (block.fields, 0)
         present, nulls = split_nulls(bare, self.words) if has_null else (bare, b"")
-        lengths = map(len, present) if present is not block.fields else block.lengths
+        are_all = present is block.fields and not block.is_marked
+        lengths = block.lengths if are_all else map(len, present)
         kept = self.examined(present, max(lengths), nulls) if present else None
         if kept is None:
             self.failed += 1
