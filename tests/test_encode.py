@@ -208,6 +208,19 @@ class Encoded(TestCase):
                     counted = sorted(Counter(field.encode() for field in column).items())
                     self.assertEqual(found, counted)
 
+    def test_comments(self) -> None:
+        """One without a line feed is a record of one empty field."""
+        folder = self.new_folder()
+        for text, rows in (("#b\na\n1\n#2\n", ["1"]), ("a\n1\n#2\r3\n4\n", ["1", "4"]),
+                           ("a\n1\n#2", ["1", "NULL"]), ("a\n1\n#2\r3", ["1", "NULL"])):
+            (folder / "text.csv").write_bytes(text.encode())
+            done = bw("encode", "--comment", "#", "text.csv", "t.bw", "fields", cwd=folder)
+            self.assertEqual(done, (0, "", ""), text)
+            self.assertEqual(bw("dump", "t.bw", cwd=folder).out, "\n".join(["c1", *rows, ""]))
+        (folder / "text.csv").write_text("a,b\n1,2\n#", encoding="ascii")
+        done = bw("encode", "--comment", "#", "text.csv", "t.bw", "fields", cwd=folder)
+        self.assertEqual(done, (3, "", "bw: 203 record length at record 2\n"))
+
     def test_errors(self) -> None:
         folder = self.new_folder()
         for text, options, error in (

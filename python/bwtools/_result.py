@@ -174,7 +174,7 @@ def read_values(plain: Any, values: Sequence[Any]) -> list[int]:
         return [datetime.date.fromisoformat(value).toordinal() - FIRST_DAY for value in values]
     if plain.name == "times" and values:
         from ._types.temporal import plain_times
-        found = plain_times(values)
+        found = plain_times(("\n".join(values) + "\n").encode(), len(values))
         if found and found.shape == (" ", True, plain.digits, ""):
             return found.numbers
     if affinity(plain) == INTEGER:

@@ -154,6 +154,17 @@ class Places(unittest.TestCase):
                          list(map(repr, doubles)))
         self.assertEqual(kinds.Floats(0).numbers(doubles), numbers)
 
+    def test_floats_of_one_sign(self):
+        """With zeros of both signs among them, and without."""
+        draw = random.Random(4)
+        for gap in (0, 1 << 61):
+            floats = kinds.Floats(gap)
+            for doubles in ([draw.uniform(1, 9) for _ in range(9)], [0.0], [-0.0], []):
+                for found in (doubles, [-each for each in doubles], [*doubles, 0.0],
+                              [*[-each for each in doubles], -0.0]):
+                    self.assertEqual(floats.numbers(found),
+                                     [floats.number(repr(each)) for each in found])
+
     def test_ranked(self):
         ranked = kinds.Ranked(SortedList([-1e10, 0.0, 1e-300, 1e10]))
         self.assertEqual([ranked.number(text) for text in ("-1e10", "-0", "1E-300", "5")],

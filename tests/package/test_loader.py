@@ -91,6 +91,10 @@ class Together(unittest.TestCase):
         self.assertGreaterEqual(kinds, {"whole", "decimals", "floats", "texts", "dates", "times",
                                         "truths", "refused"})
 
+    def test_a_word_of_odd_bytes_is_no_field(self):
+        for data in ("a\n1\n", "a\nx\ny\n"):
+            self.assertEqual(found(data, ("--null", "\udcff")), found(data, ()))
+
     def test_fields_come_back(self):
         """With the two options that keep all, each field that isn't null is what it was."""
         draw, count = random.Random(11), 0

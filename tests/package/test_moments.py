@@ -1,5 +1,6 @@
 """Dates, times and times of day, as fields spell them."""
 import random
+import re
 import unittest
 
 from bwtools._types import temporal
@@ -48,6 +49,32 @@ class Moments(unittest.TestCase):
             text = temporal.written_by(form, DAY, second)
             self.assertEqual(temporal.read_by(form, text)[1], second, text)
 
+    def test_plain_times_are_those_of_each(self):
+        """Also if a sign of one is another, or missing."""
+        draw, kept = random.Random(5), 0
+        for _ in range(3000):
+            form = draw.choice(("%Y-%m-%dT%H:%M", "%Y-%m-%dT%H:%M:%S"))
+            digits, zone = draw.choice((0, 3)) * form.endswith("S"), draw.choice(("", "Z"))
+            kind = temporal.Times(form, digits, zone)
+            fields = [kind.text(draw.randrange(10 ** 9) * 60 * 10 ** digits)
+                      for _ in range(draw.randrange(1, 4))]
+            for _ in range(draw.choice((0, 0, 1, 2))):
+                place = draw.randrange(len(fields))
+                at = draw.randrange(len(fields[place]) or 1)
+                new = draw.choice(("", *"0123456789-: TZ\u0663"))
+                fields[place] = fields[place][:at] + new + fields[place][at + 1:]
+            found = plain_times("".join(f"{field}\n" for field in fields).encode(), len(fields))
+            alike = {re.sub("[0-9]", "0", field) for field in fields}
+            read = [temporal.read_moment(f"{form[:8]}{field[10:11]}{form[9:]}", field)
+                    for field in fields]
+            are_times = None not in read and all(each.has_clock for each in read)
+            is_shape = temporal.SHAPE.fullmatch(fields[0]) is not None
+            self.assertEqual(found is not None, len(alike) == 1 and are_times and is_shape, fields)
+            if found:
+                kept += 1
+                self.assertEqual(found.numbers, [each.number for each in read], fields)
+        self.assertGreater(kept, 1000)
+
     def test_plain_times_come_back(self):
         draw = random.Random(4)
         for zone in ("", "Z", "+02:00", "-0330", "+01"):
@@ -60,7 +87,7 @@ class Moments(unittest.TestCase):
                     fields.append(
                         f"{day}T{clock}"
                         f"{f'.{draw.randrange(10 ** digits):0{digits}}' if digits else ''}{zone}")
-                found = plain_times(fields)
+                found = plain_times("".join(f"{field}\n" for field in fields).encode(), 20)
                 self.assertEqual(times_of(found.numbers, found.shape), fields)
                 one = temporal.read_moment("%Y-%m-%dT%H:%M:%S", fields[0])
                 self.assertEqual((one.number, one.digits), (found.numbers[0], digits))

@@ -188,6 +188,11 @@ class Forms(unittest.TestCase):
         data = b'# made, by "me\n#\na;b\n1;x\n# more\n2;y\n#'
         self.assertEqual(columns_of(data, "--comment", "#"), self.ROWS)
         self.assertEqual(columns_of(data.replace(b"#", b"//"), "--comment", "//"), self.ROWS)
+        # bw ends a comment by a line feed alone
+        for end in (b"\r\n", b"\r"):
+            other = data.replace(b"\n", end)
+            for text in (other, other + end):
+                self.assertEqual(columns_of(text, "--comment", "#"), self.ROWS, text)
         self.assertEqual(columns_of(b'a,b\n1,"\n# x"\n#,\n2,y\n', "--comment", "#"),
                          [["1", "2"], ["\n# x", "y"]])
         self.assertIn("line 8 has 3 fields", self.refused(data + b"\n3;4;5\n", "--comment", "#"))

@@ -19,7 +19,7 @@ from .._types.temporal import (CLOCK_LINES, DATE_LINES, DATE_STARTS, ISO_DATE, M
                                DateFormat, Dates, Moment, Times, format_of, moment_of, read_moment)
 from .ambiguity import (SHORT, Ambiguity, Decision, Rounding, Outcome, change_in_double, matching,
                         starting)
-from .fields import MOST_PLACES, Fields, Spans
+from .fields import MOST_PLACES, TRIED, Fields, Spans
 
 
 # How the dates and times of a column are spelled.
@@ -493,7 +493,7 @@ def rounded(column: Fields, style: Style, digits: int) -> Outcome:
 
 def no_double(column: Fields, style: Style) -> Optional[str]:
     """Returns a whole number that isn't a double, such as an id, if there is one."""
-    whole = (texts for part, texts in column.each()
+    whole = (column.texts(part) for part in column.parts
              if part.kept and part.kept.form == "number" and not part.kept.digits)
     for texts in itertools.chain(column.bare(), whole):
         for text in (each.strip(BLANKS) for each in texts if len(each) > SHORT):
@@ -567,8 +567,6 @@ def digits_of(form: DateFormat, text: str) -> int:
 # language, numbers with different units, times of day, lengths of time, versions or addresses of
 # the Internet. Code points don't order these.
 
-# of more texts than these, so many are tried first
-MANY, TRIED = 1 << 12, 64
 # how the names of months begin in the languages of Europe
 LIKE_STARTS = frozenset(
     "jan jän ene gen sty led feb fév fev lut úno mar mär mrt mac bře apr avr abr kwi dub may mai "
@@ -635,11 +633,11 @@ class Likeness:
     is_shared: ClassVar[bool] = False
 
     def like(self, texts: Sequence[str]) -> list[str]:
-        """Returns the texts that look so. Of many none do if few of those do that are tried
-        first."""
-        if len(texts) > MANY and sum(map(self.is_like, texts[::len(texts) // TRIED])) * 4 < TRIED:
-            return []
         return list(filter(self.is_like, texts))
+
+    def is_likely(self, tried: Sequence[str]) -> bool:
+        """Returns whether texts may look so of which these are tried, if there are many."""
+        return not tried or sum(map(self.is_like, tried)) * 4 >= TRIED
 
     def signs(self, column: Fields) -> set[str]:
         return set()

@@ -10,13 +10,13 @@ import operator
 import random
 import re
 from dataclasses import dataclass, field
-from typing import Any, Iterable, Iterator, NamedTuple, Optional, Sequence
+from typing import Any, Iterable, Iterator, NamedTuple, Optional, Sequence, TypeVar
 
 from .._csv.dialect import BLANKS
 from .._types.base import GREATEST, LEAST
 from .._types.number_format import is_grouped
 from .._types.temporal import plain_times
-from ..loader.dictionary import Dictionary, texts_of
+from ..loader.dictionary import Block, Dictionary, encoded, texts_of
 from .options import NULLS, ColumnOptions
 
 
@@ -55,9 +55,12 @@ class Spans:
 
     def add_doubles(self, doubles: Sequence[float]) -> None:
         self.is_float = True
-        least, low, high = self.reach
-        least = min(least, min(map(float.__abs__, filter(None, doubles)), default=math.inf))
-        self.reach = least, min(low, min(doubles)), max(high, max(doubles))
+        (least, low, high), first, last = self.reach, min(doubles), max(doubles)
+        if first > 0 or last < 0:
+            least = min(least, abs(first), abs(last))
+        else:
+            least = min(least, min(map(float.__abs__, filter(None, doubles)), default=math.inf))
+        self.reach = least, min(low, first), max(high, last)
 
     def copy(self) -> Spans:
         return Spans(dict(self.ends), set(self.lengths), self.has_zero, self.is_float, self.reach)
@@ -79,8 +82,8 @@ class Spans:
 # Fields that are examined many at a time: numbers and times in one spelling, from which their
 # texts can be made again.
 
-FLOATS = re.compile(r"(?:-?(?:[0-9]+(?:\.[0-9]+)?)(?:e[+-][0-9]+)?\n)*")
-FIRST = re.compile("-?[0-9]|[ \t]")
+FLOATS = re.compile(rb"(?:-?(?:[0-9]+(?:\.[0-9]+)?)(?:e[+-][0-9]+)?\n)*")
+FIRST = re.compile(b"-?[0-9]|[ \t]")
 # the types of arrays of numbers, each with the bits of its magnitudes
 TYPES = (("b", 7), ("h", 15), ("i", 31), ("q", 63))
 
@@ -107,7 +110,7 @@ class Plain:
     decimal sign and one in all, the shapes of times, how many of them have blanks around them, and
     how often other fields came. `words` has what stands for each word for null; `signs` are the
     decimal signs that are read, none if no fields may be kept so."""
-    words: dict[str, int]
+    words: dict[bytes, int]
     signs: str = ".,"
     spans: Spans = field(default_factory=Spans)
     samples: dict[str, str] = field(default_factory=dict)
@@ -127,52 +130,59 @@ class Plain:
         """The decimal sign, or nothing if none has occurred."""
         return "," if "," in self.samples.get("mark", "") else self.samples.get("mark", "") and "."
 
-    def may_have(self, first: str) -> bool:
+    def may_have(self, first: bytes) -> bool:
         """Returns whether fields, of which one is the first, may be kept as numbers."""
         return bool(self.signs) and self.failed <= 2 and \
             (FIRST.match(first) is not None or first in self.words)
 
-    def add(self, fields: Sequence[str], is_padded: bool = True) -> Numbered | None:
+    def add(self, block: Block, is_padded: bool, has_null: bool) -> Numbered | None:
         """Adds fields, and returns them as they are kept, if all but the nulls are numbers or times
-        in such a spelling."""
-        bare, padded = without_blanks(fields) if is_padded else (fields, 0)
-        present, nulls = split_nulls(bare, self.words)
-        kept = self.examined(present, nulls) if present else None
+        in such a spelling. Only some that are padded have blanks around them, and only some that
+        have a null are a word for it."""
+        bare, padded = without_blanks(block.fields) if is_padded else (block.fields, 0)
+        present, nulls = split_nulls(bare, self.words) if has_null else (bare, b"")
+        are_all = present is block.fields and not block.is_marked
+        lengths = block.lengths if are_all else map(len, present)
+        kept = self.examined(present, max(lengths), nulls) if present else None
         if kept is None:
             self.failed += 1
             return None
         self.padded += padded
-        self.samples.setdefault("any", present[0])
+        self.samples.setdefault("any", present[0].decode())
         return kept
 
-    def examined(self, fields: Sequence[str], nulls: bytes) -> Numbered | None:
-        if max(map(len, fields)) > LONGEST:
+    def examined(self, fields: Sequence[bytes], longest: int, nulls: bytes) -> Numbered | None:
+        """Adds fields, of which the longest has so many bytes, as far as they are kept."""
+        joined = b"\n".join(fields) + b"\n"
+        # other scripts have digits too
+        if longest > LONGEST or joined.count(b"\n") != len(fields) or not joined.isascii():
             return None
-        joined = "\n".join(fields) + "\n"
-        if joined.count("\n") != len(fields):
-            return None
-        if fields[0][4:5] == "-":
-            return self.times(fields, nulls)
+        if fields[0][4:5] == b"-":
+            return self.times(joined, len(fields), nulls)
         # decimals that fit no scale become floats
-        is_float = self.spans.is_float or self.spans.digits > 0 and not self.spans.fits()
-        ways = (self.floats, self.numbers) if is_float else (self.numbers, self.floats)
-        return ways[0](fields, joined, nulls) or ways[1](fields, joined, nulls)
+        if self.spans.is_float or self.spans.digits > 0 and not self.spans.fits():
+            return self.floats(fields, joined, nulls) or self.numbers(fields, joined, nulls)
+        kept = self.numbers(fields, joined, nulls)
+        # other decimals with a negative zero may still fit a scale
+        if kept is None and (b"e" in joined or longest > MOST_PLACES):
+            kept = self.floats(fields, joined, nulls)
+        return kept
 
-    def numbers(self, fields: Sequence[str], joined: str, nulls: bytes) -> Numbered | None:
+    def numbers(self, fields: Sequence[bytes], joined: bytes, nulls: bytes) -> Numbered | None:
         """Adds fields without line feeds, which are also given joined, if they are whole numbers or
         decimals."""
-        digits, lengths, mark = 0, b"", ""
-        if "." not in joined and "," not in joined:
+        digits, lengths, mark = 0, b"", b""
+        if b"." not in joined and b"," not in joined:
             if not are_whole(fields, joined):
                 return None
             numbers = list(map(int, fields))
         else:
-            mark = "," if "," in joined else "."
+            mark = b"," if b"," in joined else b"."
             counts = self.decimal_lengths(fields, joined, mark)
             if counts is None:
                 return None
             digits, lengths = max(counts), counts
-            found: Iterable[int] = map(int, joined.replace(mark, "").split())
+            found: Iterable[int] = map(int, joined.replace(mark, b"").split())
             if min(counts) != digits:
                 found = map(operator.mul, found,
                             map([10 ** (digits - length)
@@ -180,107 +190,104 @@ class Plain:
             else:
                 lengths = b""
             numbers = list(found)
-        kept = packed(numbers)
+        least, greatest = min(numbers), max(numbers)
+        kept = packed(numbers, least, greatest)
         if not kept:
             return None
         if mark and not self.mark:
-            self.samples["mark"] = next(text for text in fields if mark in text and
-                                        not is_grouped(text.lstrip("-"), mark))
-        self.spans.widen(digits, min(numbers), max(numbers))
+            self.samples["mark"] = next(text for text in map(bytes.decode, fields)
+                                        if mark.decode() in text and
+                                        not is_grouped(text.lstrip("-"), mark.decode()))
+        self.spans.widen(digits, least, greatest)
         self.spans.lengths.update(lengths)
         self.spans.has_zero = self.spans.has_zero or bool(mark) and has_zero(fields, joined, mark)
-        return Numbered("number", *kept, nulls, digits, lengths, mark)
+        return Numbered("number", *kept, nulls, digits, lengths, mark.decode())
 
-    def decimal_lengths(self, fields: Sequence[str], joined: str, mark: str) -> bytes | None:
+    def decimal_lengths(self, fields: Sequence[bytes], joined: bytes, mark: bytes) -> bytes | None:
         """Returns how many digits each field has after the decimal sign, or None if a field isn't
         such a decimal, or if the sign may separate thousands."""
-        if mark not in self.signs or self.mark not in ("", mark):
+        sign = mark.decode()
+        if sign not in self.signs or self.mark not in ("", sign):
             return None
-        if not plain_of(mark).fullmatch(joined):
+        if not plain_of(sign).fullmatch(joined):
             return None
-        lengths = [len(text.partition(mark)[2]) for text in fields]
+        lengths = [len(field.partition(mark)[2]) for field in fields]
         if max(lengths) > MOST_PLACES:
             return None
         if not self.mark and all(length in (0, 3) for length in lengths) and \
-                all(is_grouped(text.lstrip("-"), mark) for text,
+                all(is_grouped(field.decode().lstrip("-"), sign) for field,
                     length in zip(fields, lengths) if length):
             return None
         return bytes(lengths)
 
-    def floats(self, fields: Sequence[str], joined: str, nulls: bytes) -> Numbered | None:
+    def floats(self, fields: Sequence[bytes], joined: bytes, nulls: bytes) -> Numbered | None:
         """Adds fields that are doubles in Python's spelling, also without its `.0`."""
-        # other decimals with a negative zero may still fit a scale
-        is_float = self.spans.is_float or "e" in joined or max(map(len, fields)) > MOST_PLACES
-        is_float = is_float or self.spans.digits > 0 and not self.spans.fits()
-        if not is_float:
-            return None
         try:
             numbers = list(map(float, fields))
         except ValueError:
             return None
         lengths = b""
         # as a list they are spelled fastest; inf and nan are none
-        if "n" in joined or str(numbers)[1:-1].replace(", ", "\n") + "\n" != joined:
-            spelled = list(map(repr, numbers))
-            lengths = bytes(map(operator.ne, spelled, fields))
+        spelled = str(numbers)[1:-1].replace(", ", "\n").encode() + b"\n"
+        if b"n" in joined or spelled != joined:
+            others = spelled.split()
+            lengths = bytes(map(operator.ne, others, fields))
             bare = itertools.compress(fields, lengths)
-            if not FLOATS.fullmatch(joined) or any(text + ".0" != other for text, other in zip(
-                    bare, itertools.compress(spelled, lengths))):
+            if not FLOATS.fullmatch(joined) or any(field + b".0" != other for field, other in zip(
+                    bare, itertools.compress(others, lengths))):
                 return None
         self.spans.add_doubles(numbers)
         return Numbered("float", "d", array.array("d", numbers).tobytes(), nulls, 0, lengths, ".")
 
-    def times(self, fields: Sequence[str], nulls: bytes) -> Numbered | None:
-        """Adds fields that are times of one shape."""
-        found = plain_times(fields)
-        kept = found and packed(found.numbers)
-        if not found or not kept or self.shapes and found.shape not in self.shapes:
+    def times(self, joined: bytes, count: int, nulls: bytes) -> Numbered | None:
+        """Adds so many fields, joined, if they are times of one shape."""
+        found = plain_times(joined, count)
+        if not found or self.shapes and found.shape not in self.shapes:
             return None
-        ends = self.shapes.get(found.shape, (found.numbers[0], found.numbers[0]))
-        self.shapes[found.shape] = min(ends[0],
-                                       min(found.numbers)), max(ends[1], max(found.numbers))
+        least, greatest = min(found.numbers), max(found.numbers)
+        kept = packed(found.numbers, least, greatest)
+        if not kept:
+            return None
+        ends = self.shapes.get(found.shape, (least, greatest))
+        self.shapes[found.shape] = min(ends[0], least), max(ends[1], greatest)
         return Numbered("time", *kept, nulls, found.shape[2], b"", found.shape)
 
 
-def has_zero(fields: Sequence[str], joined: str, mark: str) -> bool:
+def has_zero(fields: Sequence[bytes], joined: bytes, mark: bytes) -> bool:
     """Returns whether one of some decimals, which are also given joined, ends in a zero after its
     decimal sign."""
-    return "0\n" in joined and any(text[-1] == "0" and mark in text for text in fields)
+    return b"0\n" in joined and any(field[-1:] == b"0" and mark in field for field in fields)
 
 
-def without_blanks(fields: Sequence[str]) -> tuple[Sequence[str], int]:
+def without_blanks(fields: Sequence[bytes]) -> tuple[Sequence[bytes], int]:
     """Returns fields without the blanks and tabs at their ends, and how many had some."""
-    joined = "".join(fields)
-    if " " not in joined and "\t" not in joined:
-        return fields, 0
-    bare = [text.strip(" \t") for text in fields]
+    bare = [field.strip(b" \t") for field in fields]
     return bare, sum(map(operator.ne, bare, fields))
 
 
-def are_whole(fields: Sequence[str], joined: str) -> bool:
+def are_whole(fields: Sequence[bytes], joined: bytes) -> bool:
     """Returns whether fields without line feeds, which are joined with one after each, are all
     whole numbers as they are restored."""
-    digits = joined.replace("\n", "").replace("-", "")
-    # only ASCII: other scripts have digits too
-    if not digits.isdigit() or not digits.isascii():
+    if not joined.replace(b"\n", b"").replace(b"-", b"").isdigit():
         return False
-    if "-0" in joined or "--" in joined or "-\n" in joined:
+    if b"-0" in joined or b"--" in joined or b"-\n" in joined:
         return False
-    if joined.count("-") != joined.count("\n-") + joined.startswith("-") or "" in fields:
+    if joined.count(b"-") != joined.count(b"\n-") + joined.startswith(b"-") or b"" in fields:
         return False
-    return joined.count("\n0") + joined.startswith("0") == fields.count("0")
+    return joined.count(b"\n0") + joined.startswith(b"0") == fields.count(b"0")
 
 
 @functools.lru_cache(2)
-def plain_of(mark: str) -> re.Pattern[str]:
+def plain_of(mark: str) -> re.Pattern[bytes]:
     """Returns the pattern of lines of whole numbers and decimals with a decimal sign, without
     negative zeros."""
-    return re.compile(rf"(?:(?!-0(?:[{mark}]0+)?\n)-?(?:0|[1-9][0-9]*)(?:[{mark}][0-9]+)?\n)*")
+    return re.compile((rf"(?:(?!-0(?:[{mark}]0+)?\n)-?(?:0|[1-9][0-9]*)(?:[{mark}][0-9]+)?"
+                       r"\n)*").encode())
 
 
-def packed(numbers: Sequence[int]) -> tuple[str, bytes] | None:
-    """Returns the type of an array and its bytes, or None if a number doesn't fit 64 bits."""
-    least, greatest = min(numbers), max(numbers)
+def packed(numbers: Sequence[int], least: int, greatest: int) -> tuple[str, bytes] | None:
+    """Returns the type of an array of numbers, of which two are the least and the greatest one, and
+    its bytes, or None if one doesn't fit 64 bits."""
     for kind, bits in TYPES:
         if -1 << bits <= least and greatest < 1 << bits:
             return kind, array.array(kind, numbers).tobytes()
@@ -294,11 +301,10 @@ def values_of(kept: Numbered) -> array.array[Any]:
     return found
 
 
-def split_nulls(fields: Sequence[str], places: dict[str, int]) -> tuple[Sequence[str], bytes]:
-    """Returns the fields that aren't a word for null, and a byte for each field as Numbered has it,
-    or nothing if none is such a word. `places` has what stands for each word."""
-    if places.keys().isdisjoint(fields):
-        return fields, b""
+def split_nulls(fields: Sequence[bytes],
+                places: dict[bytes, int]) -> tuple[Sequence[bytes], bytes]:
+    """Returns the fields that aren't a word for null, and a byte for each field as Numbered has it.
+    `places` has what stands for each word."""
     nulls = bytes([places.get(field, 0) for field in fields])
     return list(itertools.compress(fields, map(operator.not_, nulls))), nulls
 
@@ -311,8 +317,9 @@ MANY, AT_ONCE = 1 << 11, 1 << 12
 # ones are like a detector's own, then less than half of all are, but for a chance of one in a
 # thousand million
 DRAWN_OF, DRAWN = 1 << 14, 1000
-# a blank, and it at an end of a field among those that are joined by NULs
-PADDED = ((b" ", b"\0 ", b" \0"), (b"\t", b"\0\t", b"\t\0"))
+# of more than so many, some are tried at equal distances: so many, or one more
+TRIED_OF, TRIED = 1 << 12, 64
+T = TypeVar("T")
 
 
 class Part(NamedTuple):
@@ -328,12 +335,14 @@ class Part(NamedTuple):
 class Run:
     """Some of the distinct fields of a dictionary that aren't kept as numbers, of which bare texts
     have no blanks around them and are no words for null: of many, some bare texts, and some bare
-    fields of the rows, both drawn at random. `words` are those for null that may be among them."""
+    fields of the rows, both drawn at random. `words` are those for null that may be among them.
+    `some` has texts at equal distances, of many without blanks and words."""
     dictionary: Dictionary
     parts: list[Part]
     words: set[str]
-    texts_drawn: list[str]
-    rows_drawn: list[str]
+    texts_drawn: list[str] = field(default_factory=list)
+    rows_drawn: list[str] = field(default_factory=list)
+    some: list[str] = field(default_factory=list)
 
     @property
     def size(self) -> int:
@@ -360,12 +369,22 @@ class Run:
         return list(itertools.chain.from_iterable(counts[part.first:part.end]
                                                   for part in self.parts))
 
+    @property
+    def tried(self) -> Sequence[str]:
+        """Some of the bare texts, at equal distances, if there are many."""
+        return self.some or (every(self.bare) if len(self.bare) > TRIED_OF else [])
+
     @functools.cached_property
     def bare(self) -> list[str]:
         """The distinct bare texts, sorted."""
         if self.has_blanks:
             return sorted(set(self.texts) - self.words)
         return [text for text in self.texts if text not in self.words] if self.words else self.texts
+
+
+def every(listed: Sequence[T]) -> Sequence[T]:
+    """Returns some of many objects, at equal distances."""
+    return listed[::len(listed) // TRIED]
 
 
 @dataclass
@@ -387,54 +406,61 @@ class Fields:
         if self.dictionary is None:
             return
         self.is_many = len(self.dictionary) > MANY
-        for span in self.dictionary.spans:
-            fields = self.dictionary.block(span).fields
-            joined = b"\0".join((b"", *fields, b""))
-            # all must be UTF-8, which these may be without each of them
-            joined.decode()
-            self.has_nul = self.has_nul or joined.count(b"\0") != len(fields) + 1
-            is_padded = any(each[0] in joined and (each[1] in joined or each[2] in joined)
-                            for each in PADDED)
+        for block in self.dictionary.blocks():
+            self.has_nul = self.has_nul or b"\0" in block.data
             before = len(self.parts)
-            for first in range(0, len(fields), AT_ONCE):
-                self.add(span.first + first, fields[first:first + AT_ONCE], is_padded)
+            for part in block.parts(AT_ONCE):
+                self.add(part)
             parts = [part for part in self.parts[before:] if part.kept is None]
             if parts:
-                self.runs.append(self.run_of(parts, span.first, fields))
+                self.runs.append(self.run_of(parts, block))
 
-    def add(self, first: int, fields: list[bytes], is_padded: bool) -> None:
-        """Adds the next distinct fields."""
+    def add(self, block: Block) -> None:
+        """Adds the next distinct fields. Raises UnicodeDecodeError if one isn't UTF-8."""
+        block.check()
+        is_padded, first = block.is_padded, block.ends[0]
+        has_null = self.find_words(block, is_padded)
+        is_like = self.is_many and self.plain.may_have(first)
+        kept = self.plain.add(block, is_padded, has_null) if is_like else None
+        self.parts.append(Part(block.first, block.first + len(block), kept, is_padded))
+
+    def find_words(self, block: Block, is_padded: bool) -> bool:
+        """Counts the rows that have words for null. Returns whether there are any of the column's
+        own."""
         assert self.dictionary is not None
-        counts = self.dictionary.counts
-        is_padded = is_padded and any(field != field.strip(b" \t") for field in fields)
-        for word, encoded in self.sought.items():
+        has_null, (first, last) = False, block.ends
+        for word, wanted in self.sought.items():
+            places: Iterable[int] = ()
             if is_padded:
-                found = sum(counts[first + at] for at, field in enumerate(fields)
-                            if field.strip(b" \t") == encoded)
-            else:
-                at = bisect.bisect_left(fields, encoded)
-                found = counts[first + at] if fields[at:at + 1] == [encoded] else 0
-            if found:
+                places = [place for place, field in enumerate(block.fields)
+                          if field.strip(b" \t") == wanted]
+            elif first <= wanted <= last:
+                place = bisect.bisect_left(block.fields, wanted)
+                places = [place] if block.fields[place] == wanted else []
+            if places:
+                found = sum(self.dictionary.counts[block.first + place] for place in places)
                 self.words[word] = self.words.get(word, 0) + found
-        is_like = self.is_many and self.plain.may_have(fields[0].decode())
-        kept = self.plain.add(texts_of(fields), is_padded) if is_like else None
-        self.parts.append(Part(first, first + len(fields), kept, is_padded))
+                has_null = has_null or wanted in self.plain.words
+        return has_null
 
-    def run_of(self, parts: list[Part], first: int, fields: Sequence[bytes]) -> Run:
-        """Returns a run of parts of a block, which begins at a place."""
+    def run_of(self, parts: list[Part], block: Block) -> Run:
+        """Returns a run of parts of a block."""
         assert self.dictionary is not None
-        texts, rows = list[str](), list[str]()
-        if sum(part.end - part.first for part in parts) > DRAWN_OF:
-            own = list(itertools.chain.from_iterable(
-                fields[part.first - first:part.end - first] for part in parts))
+        found = Run(self.dictionary, parts, {*self.options.words} & {*self.words})
+        own = list(itertools.chain.from_iterable(
+            range(part.first - block.first, part.end - block.first) for part in parts))
+        if len(own) > TRIED_OF and not found.words and not found.has_blanks:
+            found.some = [block.field(place).decode() for place in every(own)]
+        if len(own) > DRAWN_OF:
             counts = itertools.chain.from_iterable(
                 self.dictionary.counts[part.first:part.end] for part in parts)
             draw = random.Random(0)
-            texts = self.bare_of(draw.sample(own, DRAWN))
-            rows = self.bare_of(draw.choices(own, list(counts), k=DRAWN))
-        return Run(self.dictionary, parts, {*self.options.words} & {*self.words}, texts, rows)
+            found.texts_drawn = self.bare_of(map(block.field, draw.sample(own, DRAWN)))
+            rows = draw.choices(own, list(counts), k=DRAWN)
+            found.rows_drawn = self.bare_of(map(block.field, rows))
+        return found
 
-    def bare_of(self, fields: Sequence[bytes]) -> list[str]:
+    def bare_of(self, fields: Iterable[bytes]) -> list[str]:
         """Returns the bare texts of fields."""
         words = set(self.options.words)
         texts = (field.decode().strip(BLANKS) for field in fields)
@@ -443,7 +469,7 @@ class Fields:
     @functools.cached_property
     def sought(self) -> dict[str, bytes]:
         """The words that may be null, and their bytes."""
-        return {word: word.encode() for word in (*self.options.words, *NULLS)}
+        return {word: encoded(word) for word in (*self.options.words, *NULLS)}
 
     def texts(self, part: Part) -> list[str]:
         """Returns the texts of a part as they are."""
@@ -466,6 +492,12 @@ class Fields:
         """Yields the distinct texts that aren't kept as numbers, without blanks around them and
         without words for null: those of one run after another, each in order."""
         return (run.bare for run in self.runs)
+
+    def has_any(self, wanted: bytes) -> bool:
+        """Returns whether a distinct field has one of some bytes, or a character beyond ASCII."""
+        assert self.dictionary is not None
+        return any(not block.data.isascii() or any(byte in block.data for byte in wanted)
+                   for block in self.dictionary.blocks())
 
     def count_rows(self, forms: Sequence[str]) -> int:
         """Returns how many rows have a field that is kept as a number of these forms."""

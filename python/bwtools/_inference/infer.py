@@ -186,6 +186,9 @@ def without_blanks(column: Fields) -> Sorted:
 
 # The detectors of a column, and what they decide together.
 
+# what separates words of ASCII
+SPACES = b"\t\n\v\f\r\x1c\x1d\x1e\x1f "
+
 # a column that is mostly of a kind, and has at most so many other words, is refused
 MOST_WORDS = 3
 
@@ -326,8 +329,9 @@ class Inference:
         column = self.column
         candidates = list(map(Candidate, LIKENESSES))
         for run in column.runs:
-            for candidate in candidates:
-                candidate.add(run)
+            for each, candidate in zip(LIKENESSES, candidates):
+                if each.is_likely(run.tried):
+                    candidate.add(run)
         for each, candidate in zip(LIKENESSES, candidates):
             likes, count = count_fields(column, candidate) if candidate.likes else (0, 0)
             are_most = candidate.likes * 2 > self.count and not column.plain.forms
@@ -433,6 +437,8 @@ def table_ambiguity(source: Source, column: Fields) -> Optional[Ambiguity]:
 def count_in_all(column: Fields, sign: str) -> int:
     """Returns how often a separator is in each text of a column, or 0 if not equally often."""
     found: Optional[int] = None
+    if column.dictionary and not column.has_any(SPACES if sign == " " else sign.encode()):
+        return 0
     for texts in column.bare():
         is_there = dialect.count("".join(texts), sign) > 0
         for count in (dialect.count(text, sign) for text in texts) if is_there else (0,):

@@ -17,6 +17,8 @@ if TYPE_CHECKING:
 # The order of doubles as whole numbers: a double's bits, as a signed number with the sign folded.
 
 MAGNITUDE = (1 << 63) - 1
+# the bits of -0.0
+LEAST_BITS = -1 << 63
 
 
 def bits_of(numbers: Iterable[float]) -> list[int]:
@@ -123,7 +125,11 @@ class Floats(Valued):
 
     def numbers(self, doubles: Sequence[float]) -> list[int]:
         """Returns the numbers of doubles of the column."""
-        gap = self.gap
+        gap, found = self.gap, array.array("q", array.array("d", doubles).tobytes())
+        if min(found, default=0) > 0:
+            return [bits - gap for bits in found]
+        if max(found, default=0) < 0 and LEAST_BITS not in found:
+            return [gap + LEAST_BITS - bits for bits in found]
         return [bits - gap if bits > 0 else bits and bits + gap for bits in bits_of(doubles)]
 
     def text(self, number: int) -> str:

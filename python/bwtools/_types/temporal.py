@@ -1,13 +1,14 @@
 """Dates, times and times of day: their texts, their formats and their kinds."""
 from __future__ import annotations
 
+import array
 import datetime
 import functools
 import itertools
 import math
 import operator
 import re
-from typing import Callable, ClassVar, Iterable, NamedTuple, Sequence, Union
+from typing import Callable, ClassVar, Iterable, NamedTuple, Optional, Sequence, Union
 
 from .._errors import Refused, shown
 from .base import Kind, Literal, Place, Settings, Valued
@@ -336,33 +337,88 @@ class PlainTimes(NamedTuple):
     shape: tuple[str, bool, int, str]
 
 
-MINUTE = re.compile("[0-9]{4}-[0-9]{2}-[0-9]{2}([T ])(?:[01][0-9]|2[0-3]):[0-5][0-9]:?")
 SHAPE = re.compile(r"[0-9]{4}-[0-9]{2}-[0-9]{2}([T ])[0-9]{2}:[0-9]{2}"
                    r"(:[0-9]{2}(?:\.([0-9]{1,9}))?)?"
                    "(Z|[+-][0-9]{2}(?::?[0-9]{2})?)?")
+# where the digits of a date are in such a text, and those of a time of day, each with how many of
+# it are one of the digit before
+DAY_PLACES = (0, 1, 2, 3, 5, 6, 8, 9)
+CLOCK_PLACES = ((11, 0), (12, 10), (14, 6), (15, 10), (17, 6), (18, 10))
+# the numbers that the bytes of digits spell
+DIGITS = bytes((byte - ord("0")) % 256 for byte in range(256))
 
 
-def plain_times(fields: Sequence[str]) -> PlainTimes | None:
-    """Returns the times of fields that all have the shape of the first, such as 2024-05-01
+def plain_times(lines: bytes, count: int) -> PlainTimes | None:
+    """Returns the times of so many lines that all have the shape of the first, such as 2024-05-01
     12:30:00, or None if one hasn't."""
-    shape = SHAPE.fullmatch(fields[0])
-    if not shape:
+    first = lines[:lines.find(b"\n")].decode("ascii", "replace")
+    shape = SHAPE.fullmatch(first)
+    offset = offset_of(shape[4]) if shape else None
+    if not shape or offset is None:
         return None
     between, seconds, part, zone = shape.groups("")
-    power, offset, place = 10 ** len(part), offset_of(zone), 17 if seconds else 16
-    if offset is None:
+    power, width = 10 ** len(part), len(first) + 1
+    # each place of all lines is a slice
+    places = [lines[place::width] for place in range(width)]
+    if len(lines) != width * count or not are_alike(places, first, len(first) - len(zone)):
         return None
-    try:
-        minutes = [field[:place] for field in fields]
-        starts = {minute: (minute_of(minute, between, place) * 60 - offset) * power
-                  for minute in set(minutes)}
-        ends = seconds_of([field[place:] for field in fields], 2 if seconds else 0, len(part), zone)
-    except ValueError:
+    digits = CLOCK_PLACES if seconds else CLOCK_PLACES[:4]
+    clocks = counted(places, [*digits, *((20 + place, 10) for place in range(len(part)))],
+                     1 if seconds else 60)
+    if clocks is None or max(clocks) >= 86400 * power:
         return None
-    numbers = list(map(operator.add, map(starts.__getitem__, minutes), ends))
+    days = array.array("Q", joined(places, DAY_PLACES))
+    # most have one day
+    distinct = set(days[:1]) if days.tobytes() == days[:1].tobytes() * count else set(days)
+    starts = {day: start_of(day, offset, power) for day in distinct}
+    if None in starts.values():
+        return None
+    found = map(starts.__getitem__, days) if len(starts) > 1 else itertools.repeat(starts[days[0]])
+    numbers = list(map(operator.add, found, clocks))
     if offset and (min(numbers) < FIRST_SECOND * power or max(numbers) >= LAST_SECOND * power):
         return None
     return PlainTimes(numbers, (between, bool(seconds), len(part), zone))
+
+
+def are_alike(places: Sequence[bytes], first: str, end: int) -> bool:
+    """Returns whether lines, of which each place is given, have digits where the first has some
+    before an end, and else its signs."""
+    for at, (sign, place) in enumerate(zip(f"{first}\n", places)):
+        is_digit = sign.isdigit() and at < end
+        if not (place.isdigit() if is_digit else place == sign.encode() * len(place)):
+            return False
+    return True
+
+
+def counted(places: Sequence[bytes], digits: Iterable[tuple[int, int]],
+            unit: int) -> Optional[array.array[int]]:
+    """Returns the units of times of day whose digits are at some places, or None if a minute or a
+    second is past 59."""
+    count, found = len(places[0]), 0
+    for place, radix in digits:
+        if radix == 6 and places[place].strip(b"012345"):
+            return None
+        # one integer has 64 bits for each line
+        lanes = bytearray(8 * count)
+        lanes[::8] = places[place].translate(DIGITS)
+        found = found * radix + int.from_bytes(lanes, "little")
+    return array.array("q", (found * unit).to_bytes(8 * count, "little"))
+
+
+def joined(places: Sequence[bytes], wanted: Sequence[int]) -> bytes:
+    """Returns the bytes at some places of all lines, those of each line together."""
+    found = bytearray(len(wanted) * len(places[0]))
+    for at, place in enumerate(wanted):
+        found[at::len(wanted)] = places[place]
+    return bytes(found)
+
+
+def start_of(day: int, offset: int, power: int) -> int | None:
+    """Returns when a day begins, whose digits are the bytes of an integer, or None if there is no
+    such day."""
+    text = day.to_bytes(8, "little").decode("ascii")
+    found = day_of(int(text[:4]), int(text[4:6]), int(text[6:]))
+    return None if found is None else (found * 86400 - offset) * power
 
 
 def times_of(numbers: Sequence[int], shape: tuple[str, bool, int, str]) -> list[str]:
@@ -387,34 +443,6 @@ def spelled_times(numbers: Sequence[int], form: str, digits: int, zone: str) -> 
                (f".{second % power:0{digits}}" if digits else "") + zone
                for second in {second for _, second in parts}}
     return [minutes[minute] + seconds[second] for minute, second in parts]
-
-
-def minute_of(text: str, between: str, length: int) -> int:
-    """Returns the minute since 1970 of the start of a time, such as 2024-05-01 12:30 or 2024-05-01
-    12:30:, with this sign between."""
-    found = MINUTE.fullmatch(text) if len(text) == length else None
-    day = day_of(int(text[:4]), int(text[5:7]),
-                 int(text[8:10])) if found and found[1] == between else None
-    if day is None:
-        raise ValueError
-    return day * 1440 + int(text[11:13]) * 60 + int(text[14:16])
-
-
-def seconds_of(ends: list[str], length: int, digits: int, zone: str) -> Iterable[int]:
-    """Returns the seconds of the ends of times, such as 07.250Z, which have `length` digits before
-    and `digits` after the point, multiplied by ten to the latter."""
-    count, joined = len(ends), "\n".join(ends) + "\n"
-    # the sign at each place of an end, or none for a digit; each place of all ends is a slice
-    signs = [*[""] * length, *["."] * bool(digits), *[""] * digits, *zone, "\n"]
-    places = [joined[place::len(signs)] for place in range(len(signs))]
-    if len(joined) != count * len(signs) or length and places[0].strip("012345"):
-        raise ValueError
-    for sign, place in zip(signs, places):
-        if place != sign * count if sign else not (place.isdigit() and place.isascii()):
-            raise ValueError
-    if not length:
-        return itertools.repeat(0)
-    return map(int, joined.replace(f"{zone}\n", "\n").replace(".", "").split())
 
 
 # Times of day: seconds since midnight.

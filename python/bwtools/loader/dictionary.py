@@ -2,6 +2,7 @@
 from __future__ import annotations
 
 import bisect
+import functools
 import io
 import itertools
 import operator
@@ -39,10 +40,65 @@ class ByteFile:
             rest = rest[os.write(self.number, rest):]
 
 
-class Block(NamedTuple):
-    """Some fields of a dictionary: the place of the first one, and their bytes."""
-    first: int
-    fields: List[bytes]
+class Block:
+    """Some fields of a dictionary: the place of the first one, their bytes, one after the other,
+    and their lengths. Each has a sign before it that isn't its own if `is_marked`."""
+
+    def __init__(self, first: int, data: bytes, lengths: array[int],
+                 is_marked: bool = False) -> None:
+        self.first, self.data, self.lengths, self.is_marked = first, data, lengths, is_marked
+
+    def __len__(self) -> int:
+        return len(self.lengths)
+
+    def parts(self, count: int) -> Iterator[Block]:
+        """Yields the fields as blocks of at most so many."""
+        at = 0
+        for first in range(0, len(self), count):
+            lengths = self.lengths[first:first + count]
+            end = at + sum(lengths)
+            yield Block(self.first + first, self.data[at:end], lengths, self.is_marked)
+            at = end
+
+    @functools.cached_property
+    def fields(self) -> List[bytes]:
+        """The fields, which take a multiple of their bytes."""
+        found = list(map(io.BytesIO(self.data).read, self.lengths))
+        return [field[1:] for field in found] if self.is_marked else found
+
+    @functools.cached_property
+    def starts(self) -> List[int]:
+        return list(itertools.accumulate(self.lengths, initial=0))
+
+    def field(self, place: int) -> bytes:
+        """Returns the field at a place of this block."""
+        return self.data[self.starts[place] + self.is_marked:self.starts[place + 1]]
+
+    @property
+    def ends(self) -> Tuple[bytes, bytes]:
+        """The first and the last field, of one or more."""
+        last = len(self.data) - self.lengths[-1]
+        return self.data[self.is_marked:self.lengths[0]], self.data[last + self.is_marked:]
+
+    @functools.cached_property
+    def joined(self) -> bytes:
+        """The fields, joined by NULs."""
+        return b"\0".join(self.fields)
+
+    def check(self) -> None:
+        """Raises UnicodeDecodeError if a field isn't UTF-8, which all may be without each."""
+        if not self.data.isascii():
+            self.joined.decode()
+
+    @property
+    def is_padded(self) -> bool:
+        """Whether a field has a blank or a tab at an end."""
+        for blank in (b" ", b"\t"):
+            if blank in self.data and (
+                    b"\0" + blank in self.joined or blank + b"\0" in self.joined or
+                    self.joined.startswith(blank) or self.joined.endswith(blank)):
+                return any(field != field.strip(b" \t") for field in self.fields)
+        return False
 
 
 class Span(NamedTuple):
@@ -75,9 +131,8 @@ class Dictionary:
 
     def block(self, span: Span) -> Block:
         """Reads a block."""
-        data = io.BytesIO(self.file.at(span.at, span.size))
-        fields = list(map(data.read, self.lengths[span.first:span.end]))
-        return Block(span.first, [field[1:] for field in fields] if self.is_marked else fields)
+        return Block(span.first, self.file.at(span.at, span.size),
+                     self.lengths[span.first:span.end], self.is_marked)
 
     def between(self, first: int, end: int) -> List[bytes]:
         """Returns the fields from one place to another, of one block."""
@@ -109,12 +164,11 @@ class Dictionary:
         """Returns how many ends of lines there are in the fields of all rows."""
         found = 0
         for span in self.spans:
-            data = self.file.at(span.at, span.size)
-            if b"\n" in data or b"\r" in data:
+            block = self.block(span)
+            if b"\n" in block.data or b"\r" in block.data:
                 counts = self.counts[span.first:span.end]
-                fields = self.block(span).fields
-                breaks = map(breaks_in, fields) if b"\r" in data else \
-                    map(operator.methodcaller("count", b"\n"), fields)
+                breaks = map(breaks_in, block.fields) if b"\r" in block.data else \
+                    map(operator.methodcaller("count", b"\n"), block.fields)
                 found += sum(map(operator.mul, breaks, counts))
         return found
 
@@ -125,15 +179,15 @@ def breaks_in(data: bytes) -> int:
     return found if b"\r" not in data else found + data.count(b"\r") - data.count(b"\r\n")
 
 
+def encoded(word: str) -> bytes:
+    """Returns the bytes of a word, which may have odd bytes of an argument, as no field has."""
+    return word.encode("utf-8", "surrogateescape")
+
+
 def texts_of(fields: Sequence[bytes]) -> List[str]:
     """Returns fields as texts. Raises UnicodeDecodeError if one isn't UTF-8."""
-    return texts_in(b"\0".join(fields).decode(), fields)
-
-
-def texts_in(joined: str, fields: Sequence[bytes]) -> List[str]:
-    """Returns the texts of fields that are also given joined by NULs, which is faster than to
-    decode each, unless one has a NUL."""
-    found = joined.split("\0")
+    # faster than to decode each, unless one has a NUL
+    found = b"\0".join(fields).decode().split("\0")
     return found if len(found) == len(fields) else list(map(bytes.decode, fields))
 
 
@@ -171,7 +225,8 @@ class Reader:
     def fill(self) -> bool:
         """Reads the next fields, if none are left. Returns whether there are any."""
         if not self.fields:
-            self.fields = next(self.blocks, Block(0, [])).fields
+            block = next(self.blocks, None)
+            self.fields = block.fields if block else []
         return bool(self.fields)
 
     def take(self, last: bytes) -> List[bytes]:

@@ -266,6 +266,23 @@ def is_plain(signs: Signs) -> bool:
         len({*marks, "\n", "\r"}) == len(marks) + 2
 
 
+def has_returns(source: Source) -> bool:
+    """Returns whether carriage returns without a line feed are in a file. These end lines, but for
+    bw no comments."""
+    text, before = source.text.decoded(), ""
+    try:
+        while block := text.read(CHARACTERS_AT_ONCE):
+            alone = block.count("\r") - block.count("\r\n") - block.endswith("\r")
+            if alone or before == "\r" and block[0] != "\n":
+                return True
+            before = block[-1]
+    except UnicodeDecodeError:
+        source.text.undecoded()
+    finally:
+        text.detach()
+    return before == "\r"
+
+
 def start_of(source: Source) -> int:
     """Returns where the heading of a file of UTF-8 begins, after a byte order mark and lines that
     are skipped."""
@@ -288,7 +305,7 @@ def heading_of(width: int, separator: str = ",", quote: str = '"') -> bytes:
 def feed_of(source: Source, marked: Collection[int] = ()) -> Feed:
     """Returns the bytes of a file, of which some columns must have codes."""
     signs, width = source.text.signs, len(source.headings)
-    if marked or not is_plain(signs):
+    if marked or not is_plain(signs) or signs.comment and has_returns(source):
         return RecordFeed(source, marked, heading_of(width))
     heading = b"" if source.has_heading else heading_of(width, signs.separator, signs.quote)
     if source.text.encoding not in ("utf-8-sig", "utf-8") or source.text.errors != "strict":

@@ -27,16 +27,16 @@ from .._storage.columns_file import TableFile
 from .._types.base import GREATEST, Column, Kind
 from .._types.kinds import Whole, unstyled
 from .._types.number_format import SIMPLE
-from .._types.numbers import Decimals, Floats, Ranked
+from .._types.numbers import LEAST_BITS, Decimals, Floats, Ranked
 from .._types.temporal import Times
 from . import encode
-from .dictionary import ByteFile, Dictionary, merge, texts_of
+from .dictionary import ByteFile, Dictionary, encoded, merge, texts_of
 from .encode import CodedFile, CodedPart, Coder, check
 
 
 # The numbers that the distinct fields of a column become, and what is counted of its rows.
 
-NULL, NEGATIVE_ZERO = "NULL", -1 << 63
+NULL = "NULL"
 
 
 @dataclass
@@ -144,7 +144,7 @@ class Numbers:
         if isinstance(kind, (Floats, Ranked)):
             if kept.form == "float" and numbers.count(0.0):
                 bits = memoryview(kept.data).cast("q")
-                zeros = map(NEGATIVE_ZERO.__eq__, bits)
+                zeros = map(LEAST_BITS.__eq__, bits)
                 self.counts.zeros += sum(itertools.compress(counts, zeros))
             return kind.numbers(numbered_doubles(kept))
         digits = kind.digits if isinstance(kind, (Decimals, Times)) else 0
@@ -196,9 +196,11 @@ class Numbers:
 
 def text_of(numbers: Sequence[Optional[int]]) -> str:
     """Returns a line for each number."""
-    # as a list they are spelled fastest
-    text = str(numbers)[1:-1].replace(", ", "\n")
-    return f"{text.replace('None', NULL)}\n" if numbers else ""
+    try:
+        return "%d\n" * len(numbers) % tuple(numbers)
+    except TypeError:
+        # one of them is null
+        return str(numbers)[1:-1].replace(", ", "\n").replace("None", NULL) + "\n"
 
 
 def exact_words(column: Fields) -> dict[str, int]:
@@ -511,7 +513,7 @@ def plain_of(options: ColumnOptions) -> Plain:
     own = (options.form is not None or options.is_text or options.digits is not None or
            options.rules.keeps_blanks)
     comma = "," if options.rules.separator != "," or options.is_number else ""
-    words = {word: place for place, word in enumerate(options.words, 1)}
+    words = {encoded(word): place for place, word in enumerate(options.words, 1)}
     return Plain(words, "" if own or options.rules.thousands else f".{comma}")
 
 
