@@ -22,7 +22,8 @@ STRICT = ["--strict", "--python-version", "3.9", "--ignore-missing-imports", "--
 TYPED = [f"tests/{name}.py" for name in ("support", "pages", "drawn", "drawn_numbers", "reference",
                                        "drawn_select", "selects", "drawn_programs",
                                        "second_checker")]
-TYPED += ["verify/check.py", "verify/answer.py", "scripts/pictures.py"]
+TYPED += ["verify/check.py", "verify/answer.py", "scripts/pictures.py", "scripts/wheel",
+          "bench/pictures.py"]
 WORD = re.compile(r"[^\s(){}\[\],;.:λ@]+")
 # a definition or lemma at the margin: its name, and the block that it belongs to
 HEAD = re.compile(r"^(?:(?:pub|abbrev|unfoldable|opaque) )*([^\s(){}\[\],;.:]+) :(?: (.*))?$")

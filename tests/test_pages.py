@@ -1,6 +1,6 @@
-"""What a reader does who tries all pages in one folder: README.md and the pages of its list, in that
-order, and then README.md once more. Each call prints what its page has, and what a page has imported
-stays an import."""
+"""What a reader does who tries all pages in one folder: README.md and the pages of its list, in
+that order, and then README.md once more. Each call prints what its page has, and what a page has
+imported stays an import."""
 import os
 import re
 

@@ -66,8 +66,8 @@ def installed_program() -> str | None:
     package is in a folder `python`."""
     folder = os.path.dirname(os.path.dirname(os.path.realpath(__file__)))
     tops = (os.path.dirname(os.path.dirname(os.path.dirname(folder))), folder)
-    paths = [os.path.join(top, "bin", "bw") for top in tops]
-    return next(filter(is_program, paths), None) if os.path.basename(folder) != "python" else None
+    paths = [os.path.join(top, "bin", "bw") for top in tops if os.path.basename(folder) != "python"]
+    return next((path for path in paths if is_program(path)), None)
 
 
 def own_program() -> str | None:
