@@ -118,6 +118,8 @@ class Install(Installed):
     def test_from_the_tar(self):
         if not (ROOT / "dist" / "bw").exists():
             self.skipTest("the packed tar: dist/bw isn't there")
+        if not shutil.which("xz"):
+            self.skipTest("the packed tar: install xz-utils")
         for name in ("bw.tar.xz", "two.tar.xz"):
             # in a hurry
             done = run([ROOT / "scripts" / "ship", "--pack", self.folder / name], XZ_OPT="-0")

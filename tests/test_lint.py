@@ -34,10 +34,13 @@ BLOCK = ("pub", "record", "data", "module")
 def sources():
     """Returns the files of Python and of shell that git knows, or, without git, all that are here,
     by language."""
-    done = subprocess.run(["git", "-c", "safe.directory=*", "ls-files", "-z"], cwd=ROOT,
-                          stdout=subprocess.PIPE, stderr=subprocess.PIPE, text=True, check=False)
-    names = done.stdout.split("\0") if done.returncode == 0 else \
-        [str(path.relative_to(ROOT)) for path in ROOT.rglob("*")]
+    try:
+        listed = subprocess.run(["git", "-c", "safe.directory=*", "ls-files", "-z"], cwd=ROOT,
+                                stdout=subprocess.PIPE, stderr=subprocess.PIPE, text=True,
+                                check=True).stdout
+    except (OSError, subprocess.CalledProcessError):
+        listed = "\0".join(str(path.relative_to(ROOT)) for path in ROOT.rglob("*"))
+    names = listed.split("\0")
     found = collections.defaultdict(list)
     for name in filter(None, names):
         path = ROOT / name
