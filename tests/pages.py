@@ -210,23 +210,21 @@ def functions_of(calls: list[Call]) -> str:
                    for found in re.finditer(r"^\w+\(\) \{ .* \}$", call.command, re.MULTILINE))
 
 
-def script_of(calls: list[Call], told: pathlib.Path, known: str) -> str:
+def script_of(calls: list[Call], told: pathlib.Path) -> str:
     """Returns a script that runs calls one after another, and writes to a folder what each prints
     and its status."""
     lines = []
     for number, call in enumerate(calls):
         path = shlex.quote(str(told / str(number)))
-        command = known + functions_of(calls[:number]) + call.command
+        command = functions_of(calls[:number]) + call.command
         lines.append(f"(eval {shlex.quote(command)}) </dev/null >{path}.out 2>{path}.err\n"
                      f"echo $? >{path}.status")
     return "\n".join(lines) + "\n"
 
 
-def run_calls(calls: list[Call], folder: pathlib.Path, told: pathlib.Path,
-              known: str = "") -> list[Done | None]:
-    """Runs calls in a folder, with functions that they know. Returns what each left, or None for
-    those that didn't end."""
-    (told / "script").write_text(script_of(calls, told, known), encoding="utf-8")
+def run_calls(calls: list[Call], folder: pathlib.Path, told: pathlib.Path) -> list[Done | None]:
+    """Runs calls in a folder. Returns what each left, or None for those that didn't end."""
+    (told / "script").write_text(script_of(calls, told), encoding="utf-8")
     support.sh(f". {shlex.quote(str(told / 'script'))}", folder, seconds=300)
     found: list[Done | None] = []
     for number in range(len(calls)):
@@ -354,8 +352,7 @@ class Page(support.TestCase):
         if needed:
             (folder / "bin" / needed[0]).unlink(missing_ok=True)
             support.write_script(folder / "bin" / needed[0], f'exec "{needed[1]}" "$@"')
-        known = functions_of(self.rooms[""]) if room != "" and "" in self.rooms else ""
-        self.done[room] = dict(enumerate(run_calls(self.rooms[room], folder, told, known)))
+        self.done[room] = dict(enumerate(run_calls(self.rooms[room], folder, told)))
         self.lost[room] = not_restored(folder)
 
     def check(self, room: Any, place: int, call: Call) -> None:

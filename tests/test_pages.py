@@ -1,6 +1,6 @@
 """What a reader does who tries all pages in one folder: README.md and the pages of its list, in
 that order, and then README.md once more. Each call prints what its page has, and what a page has
-imported stays an import."""
+imported stays an import. The pages of cases/ have tests of their own, section by section."""
 import os
 import re
 
@@ -41,6 +41,7 @@ class InOneFolder(support.TestCase):
                 with self.subTest(page, line=call.line):
                     wrong = pages.difference(page, call, done, page in BY_BLOCKS)
                     self.assertFalse(wrong, wrong)
+        self.assertEqual(pages.not_restored(folder), [])
         imported = sorted(folder.glob("*.bw.columns"))
         self.assertGreater(len(imported), 5)
         for columns in imported:
