@@ -1,5 +1,5 @@
 # What developers do here, a line each. `make` alone lists it; CONTRIBUTING.md says more of each step.
-.PHONY: help test check proof bench fmt lint ship install uninstall clean
+.PHONY: help test check proof bench fmt lint ship wheel install uninstall clean
 
 help:      ## list these
 	@sed -n 's/^\([a-z]*\):[^#]*## /make \1	/p' Makefile | expand -t 16
@@ -24,6 +24,9 @@ lint:      ## check the sources by ruff or flake8, mypy and shellcheck
 
 ship:      ## make dist/bw of these sources
 	scripts/ship
+
+wheel:     ## pack program and Python package for pip, as out/*.whl
+	scripts/wheel
 
 install:   ## copy the program and the tools to PREFIX, by default ~/.local
 	./install $(PREFIX)

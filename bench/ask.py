@@ -4,8 +4,7 @@ in a file, pandas with its rows in memory and DuckDB with its rows in a file.
 pandas and DuckDB are skipped if this Python lacks them: run it by /usr/bin/python3 if Debian's
 python3-pandas is installed. Each figure is the wall time in milliseconds and the processor's, of
 this process and of bw's sessions, and the lesser of two runs or more. In a connection the table is
-open, as in sqlite3 and in DuckDB; a whole process starts Python as well. --svg draws the questions
-on a logarithmic axis."""
+open, as in sqlite3 and in DuckDB; a whole process starts Python as well."""
 from __future__ import annotations
 
 import argparse
@@ -20,9 +19,8 @@ import sqlite3
 import subprocess
 import sys
 import time
-from typing import Any, Callable, Dict, Iterator, List, NamedTuple, Optional, Sequence, Tuple
+from typing import Any, Callable, Dict, Iterator, List, NamedTuple, Sequence, Tuple
 
-import pictures
 from data import bw_program, complete
 from timing import TOP, Words, agree, run, show
 
@@ -59,8 +57,6 @@ DUCK = "CREATE TABLE {name} AS SELECT * FROM read_csv_auto('{raw}', header = tru
 # of the columns that aren't whole numbers
 TYPES = {"word": "TEXT", "note": "TEXT", "day": "TEXT", "at": "TEXT", "city": "TEXT",
          "product": "TEXT", "score": "REAL"}
-# the questions' figures for a picture: a title, and the times of each program
-Drawn = List[Tuple[str, Dict[str, float]]]
 
 
 class Figure(NamedTuple):
@@ -88,7 +84,6 @@ def add_options(parser: argparse.ArgumentParser) -> None:
                         choices=["count", "top", "groups", "border", "way2", "questions"])
     parser.add_argument("--trips", type=int, default=1_000_000, metavar="N",
                         help="rows of the questions (default: %(default)s)")
-    parser.add_argument("--svg", type=pathlib.Path, metavar="FILE", help="draw the figures")
 
 
 def write_numbers(path: pathlib.Path, rows: int) -> None:
@@ -211,16 +206,15 @@ def answer(connection: Any, sql: str) -> Callable[[], Any]:
     return lambda: list(connection._database.answer(sql).rows())
 
 
-def show_figures(title: str, figures: Sequence[Figure], drawn: Drawn) -> None:
+def show_figures(title: str, figures: Sequence[Figure]) -> None:
     """Prints a table of figures, each with its ratio to the first one."""
     agree(title, [each.answer for each in figures if each.answer is not None] or [None])
     show(title, ["", "wall, ms", "processor, ms", "wall, times bw"],
          ([each.name, f"{each.wall * 1000:,.1f}", f"{each.processor * 1000:,.0f}",
            f"{each.wall / figures[0].wall:,.1f}"] for each in figures))
-    drawn.append((title, {each.name: each.wall * 1000 for each in figures}))
 
 
-def time_count(folder: pathlib.Path, bw: str, drawn: Drawn) -> None:
+def time_count(folder: pathlib.Path, bw: str) -> None:
     """Times one COUNT by whole processes."""
     code = ("import sqlite3, sys\n"
             "print(sqlite3.connect(sys.argv[1]).execute(sys.argv[2]).fetchall())")
@@ -229,7 +223,7 @@ def time_count(folder: pathlib.Path, bw: str, drawn: Drawn) -> None:
         process("bw", [sys.executable, BIN / "bw-ask", folder / "texts.bw", COUNT], 5),
         process("Python's start alone", [sys.executable, "-c", ""], 5),
         process("bw query alone", [bw, "query", folder / "texts.bw", plain], 5),
-        process("sqlite3", [sys.executable, "-c", code, folder / "texts.db", COUNT], 3)], drawn)
+        process("sqlite3", [sys.executable, "-c", code, folder / "texts.db", COUNT], 3)])
 
 
 def others(folder: pathlib.Path, name: str, sql: str, by_pandas: Callable[[Any], Any]
@@ -250,7 +244,7 @@ def others(folder: pathlib.Path, name: str, sql: str, by_pandas: Callable[[Any],
                 tuple(row) for row in connection.execute(sql).fetchall()])
 
 
-def time_top_ten(folder: pathlib.Path, drawn: Drawn) -> None:
+def time_top_ten(folder: pathlib.Path) -> None:
     """Times the most frequent texts."""
     def by_pandas(frame: Any) -> List[Tuple[str, int]]:
         counts = frame["word"].value_counts()
@@ -261,16 +255,16 @@ def time_top_ten(folder: pathlib.Path, drawn: Drawn) -> None:
         first = clock.time("bw, first question", answer(connection, TOP_TEN), 1)
         figures = [clock.time("bw", answer(connection, TOP_TEN)), first]
     show_figures("Top ten of 30,000 texts",
-                 figures + list(others(folder, "texts", TOP_TEN, by_pandas)), drawn)
+                 figures + list(others(folder, "texts", TOP_TEN, by_pandas)))
 
 
-def time_groups(folder: pathlib.Path, drawn: Drawn) -> None:
+def time_groups(folder: pathlib.Path) -> None:
     """Times few groups, in one file and in shards."""
     for size in GROUPS:
-        time_groups_of(folder, size, drawn)
+        time_groups_of(folder, size)
 
 
-def time_groups_of(folder: pathlib.Path, size: int, drawn: Drawn) -> None:
+def time_groups_of(folder: pathlib.Path, size: int) -> None:
     """Times so many groups."""
     sql, name = GROUPS[size], "g" if size == 22 else "h"
 
@@ -285,7 +279,7 @@ def time_groups_of(folder: pathlib.Path, size: int, drawn: Drawn) -> None:
             first = clock.time(f"{label}, first question", answer(connection, sql), 1)
             figures += [clock.time(label, answer(connection, sql), 3), first]
     show_figures(f"COUNT and SUM of {size} groups",
-                 figures + list(others(folder, "numbers", sql, by_pandas)), drawn)
+                 figures + list(others(folder, "numbers", sql, by_pandas)))
 
 
 def time_border(folder: pathlib.Path) -> None:
@@ -310,7 +304,7 @@ def time_border(folder: pathlib.Path) -> None:
              ["Question", "by statements", "processor", "by listed rows", "processor"], lines())
 
 
-def time_way_2(folder: pathlib.Path, drawn: Drawn) -> None:
+def time_way_2(folder: pathlib.Path) -> None:
     """Times a question that SQLite answers over listed rows, beside sqlite3's import and query."""
     def whole() -> List[Any]:
         database = sqlite3.connect(":memory:")
@@ -329,7 +323,7 @@ def time_way_2(folder: pathlib.Path, drawn: Drawn) -> None:
     database = sqlite3.connect(folder / "texts.db")
     show_figures("What only SQLite does, over 100,000 of the rows", [
         again, first, Clock().time("sqlite3, import of these rows and query", whole),
-        Clock().time("sqlite3", lambda: database.execute(WAY_2).fetchall())], drawn)
+        Clock().time("sqlite3", lambda: database.execute(WAY_2).fetchall())])
 
 
 def time_questions(folder: pathlib.Path) -> None:
@@ -363,16 +357,6 @@ def connect(path: pathlib.Path) -> Any:
     return importlib.import_module("bwtools").connect(path)
 
 
-def draw(drawn: Drawn, path: pathlib.Path) -> None:
-    """Draws the figures of some programs for each question."""
-    names = ["bw", f"bw, {SHARDS} shards", "sqlite3", "pandas", "DuckDB"]
-    names = [name for name in names if any(name in times for _, times in drawn)]
-    figures: List[Tuple[str, List[Optional[float]]]] = [
-        (title, [times.get(name) for name in names]) for title, times in drawn]
-    path.write_text(pictures.bars("Milliseconds a question", names, figures, True),
-                    encoding="ascii")
-
-
 def measure(given: argparse.Namespace) -> None:
     """Prints the tables."""
     os.environ["BW"] = bw = bw_program()
@@ -381,7 +365,6 @@ def measure(given: argparse.Namespace) -> None:
     subprocess.run([sys.executable, "-m", "compileall", "-q", TOP / "python" / "bwtools"],
                    check=True)
     folder: pathlib.Path = given.folder
-    drawn: Drawn = []
     make(folder, "texts", write_texts, given.texts)
     make(folder, "numbers", write_numbers, given.rows)
     make(folder, "trips", write_trips, given.trips)
@@ -391,14 +374,12 @@ def measure(given: argparse.Namespace) -> None:
     if missing:
         print(f"Not installed here: {', '.join(missing)}.\n")
     parts: Dict[str, Callable[[], object]] = {
-        "count": lambda: time_count(folder, bw, drawn),
-        "top": lambda: time_top_ten(folder, drawn),
-        "groups": lambda: time_groups(folder, drawn),
+        "count": lambda: time_count(folder, bw),
+        "top": lambda: time_top_ten(folder),
+        "groups": lambda: time_groups(folder),
         "border": lambda: time_border(folder),
-        "way2": lambda: time_way_2(folder, drawn),
+        "way2": lambda: time_way_2(folder),
         "questions": lambda: time_questions(folder)}
     for part, work in parts.items():
         if given.only in (None, part):
             work()
-    if given.svg:
-        draw(drawn, given.svg)

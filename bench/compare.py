@@ -4,7 +4,7 @@ First bw is compared with bench/tuned.c, C that is tuned by hand and validates e
 does. Damaged table files show that both reject the same ones, with the same error at the same byte.
 With --only-tuned that is all. Then follow plain C (bench/query.c), sqlite3 and mawk, and a load in
 each layout beside sqlite3's import, timed once. --sorted compares with plain C over rows sorted by
-the column of each condition, which a program can skip more of. --svg draws the figures as bars."""
+the column of each condition, which a program can skip more of."""
 from __future__ import annotations
 
 import argparse
@@ -14,7 +14,6 @@ import subprocess
 import sys
 from typing import Dict, Iterator, List, Optional, Sequence, Tuple
 
-import pictures
 from data import (LAYOUTS, QUESTIONS, Question, bw_program, compiled, database_of,
                   four_columns, schema_file, table_files, tables_of_rows)
 from timing import TOP, Words, agree, least, run, run_in_turn, show
@@ -53,7 +52,6 @@ def add_options(parser: argparse.ArgumentParser) -> None:
     """Adds the options of this comparison."""
     parser.add_argument("--only-tuned", action="store_true", help="beside tuned C alone")
     parser.add_argument("--sorted", action="store_true", help="sorted rows, beside plain C alone")
-    parser.add_argument("--svg", type=pathlib.Path, metavar="FILE", help="draw the figures")
 
 
 def measure(given: argparse.Namespace) -> None:
@@ -70,9 +68,6 @@ def measure(given: argparse.Namespace) -> None:
          ["Question", *ENGINES],
          ([name, *("" if taken is None else f"{taken:,.0f}" for taken in times)]
           for name, times in found))
-    if given.svg:
-        given.svg.write_text(pictures.bars(f"Milliseconds over {rows:,} rows", ENGINES, found),
-                             encoding="ascii")
 
 
 def fault_of(words: Words) -> Optional[Tuple[int, int]]:

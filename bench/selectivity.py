@@ -1,16 +1,13 @@
 """Times a count and a sum in a session by the share of rows that the condition selects, in both
 layouts, beside sqlite3 and, where it is installed, numpy.
 
-Column c is drawn from 0 to 1,000,000, so `c < n` selects n of a million rows. --svg draws the
-nanoseconds a row against the share."""
+Column c is drawn from 0 to 1,000,000, so `c < n` selects n of a million rows."""
 from __future__ import annotations
 
 import argparse
-import pathlib
 from functools import partial
 from typing import Dict, Iterator, List, Sequence
 
-import pictures
 from data import bw_program, in_memory, tables_of_rows
 from session import Session, fetch, text_of
 from timing import agree, least, show
@@ -22,7 +19,6 @@ ITEMS = {"COUNT(*)": "count", "SUM(d)": "sum"}
 
 def add_options(parser: argparse.ArgumentParser) -> None:
     """Adds the options of this comparison."""
-    parser.add_argument("--svg", type=pathlib.Path, metavar="FILE", help="draw the figures")
 
 
 def measure(given: argparse.Namespace) -> None:
@@ -50,8 +46,3 @@ def measure(given: argparse.Namespace) -> None:
          ["Share", *names], lines())
     for session in sessions.values():
         session.end()
-    if given.svg:
-        given.svg.write_text(pictures.lines(
-            f"A statement of a session over {given.rows:,} rows",
-            ("share of rows selected", "nanoseconds a row"), names, SHARES,
-            [curves[name] for name in names]), encoding="ascii")

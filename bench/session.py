@@ -6,7 +6,7 @@ bench/memory.c, sqlite3 and numpy is a call within the process that has the rows
 ClickHouse is an HTTP call of a server with one thread and the rows in memory. `bw query` is a whole
 process. Figures of sqlite3, numpy and ClickHouse are the minimum of three. Then follow the time
 from the start of a session to its first result, its peak memory, and a count over tables of 1, 8
-and 32 columns. --svg draws the statements beside the other programs."""
+and 32 columns."""
 from __future__ import annotations
 
 import argparse
@@ -20,7 +20,6 @@ import sys
 from functools import partial
 from typing import Dict, Iterator, List, Optional, Sequence, Tuple
 
-import pictures
 from clickhouse import in_clickhouse
 from data import (LAYOUTS, QUESTIONS, bw_program, compiled, complete, four_columns, in_memory,
                   table_files, tables_of_rows, write_csv, written)
@@ -81,7 +80,6 @@ class Session:
 
 def add_options(parser: argparse.ArgumentParser) -> None:
     """Adds the options of this comparison."""
-    parser.add_argument("--svg", type=pathlib.Path, metavar="FILE", help="draw the figures")
 
 
 def measure(given: argparse.Namespace) -> None:
@@ -99,9 +97,6 @@ def measure(given: argparse.Namespace) -> None:
     heads, figures = beside_others(found, others)
     show(f"Sessions beside other programs, ms, {given.rows:,} rows", ["Statement", *heads],
          ([name, *(f"{taken:,.2f}" for taken in times)] for name, times in figures))
-    if given.svg:
-        title = f"Milliseconds a statement over {given.rows:,} rows"
-        given.svg.write_text(pictures.bars(title, heads, figures, True), encoding="ascii")
     show_starts(bw, tables, peaks, given.runs)
     show_widths(bw, folder, given.runs)
 

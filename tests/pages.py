@@ -203,13 +203,21 @@ def furnish(folder: pathlib.Path) -> None:
         (folder / name).symlink_to(ROOT / name)
 
 
+def functions_of(calls: list[Call]) -> str:
+    """Returns the functions of a shell that calls define, each in one line. Later calls know them,
+    as in a reader's shell."""
+    return "".join(f"{found.group()}\n" for call in calls
+                   for found in re.finditer(r"^\w+\(\) \{ .* \}$", call.command, re.MULTILINE))
+
+
 def script_of(calls: list[Call], told: pathlib.Path) -> str:
     """Returns a script that runs calls one after another, and writes to a folder what each prints
     and its status."""
     lines = []
     for number, call in enumerate(calls):
         path = shlex.quote(str(told / str(number)))
-        lines.append(f"(eval {shlex.quote(call.command)}) </dev/null >{path}.out 2>{path}.err\n"
+        command = functions_of(calls[:number]) + call.command
+        lines.append(f"(eval {shlex.quote(command)}) </dev/null >{path}.out 2>{path}.err\n"
                      f"echo $? >{path}.status")
     return "\n".join(lines) + "\n"
 
@@ -226,6 +234,23 @@ def run_calls(calls: list[Call], folder: pathlib.Path, told: pathlib.Path) -> li
                             for end in (".out", ".err")))
                      if path.with_suffix(".status").exists() else None)
     return found
+
+
+def difference(page: str, call: Call, done: Done | None, by_blocks: bool) -> str:
+    """Returns how what a call left differs from its page; nothing if it doesn't."""
+    at = f"{page}:{call.line}\n$ {call.command[:2000]}\n"
+    if done is None:
+        return f"{at}it didn't end, or not within 300 seconds"
+    printed = printed_by(done)
+    if by_blocks and re.search(r"bw [^|]*\|[^|]", call.command):
+        # the status is that of the last command of the line
+        printed = done.out.splitlines() + done.err.splitlines()
+    if not is_as_wanted(call.prints, printed):
+        return at + "\n".join(difflib.unified_diff(call.prints, printed, "wanted", "came",
+                                                   lineterm=""))
+    if not by_blocks and "2>" not in call.command and on_wrong_stream(done):
+        return f"{at}prints this on the other stream: {on_wrong_stream(done)}"
+    return ""
 
 
 # whether tables were restored, by their bytes: many sections begin with the same ones
@@ -333,18 +358,8 @@ class Page(support.TestCase):
     def check(self, room: Any, place: int, call: Call) -> None:
         """Compares what a call printed with the page."""
         self.run_room(room)
-        done, at = self.done[room][place], f"{self.page}:{call.line}\n$ {call.command[:2000]}\n"
-        if done is None:
-            self.fail(f"{at}it didn't end, or not within 300 seconds")
-        printed = printed_by(done)
-        if self.by_blocks and re.search(r"bw [^|]*\|[^|]", call.command):
-            # the status is that of the last command of the line
-            printed = done.out.splitlines() + done.err.splitlines()
-        if not is_as_wanted(call.prints, printed):
-            self.fail(at + "\n".join(difflib.unified_diff(call.prints, printed, "wanted", "came",
-                                                          lineterm="")))
-        if not self.by_blocks and "2>" not in call.command:
-            self.assertEqual(on_wrong_stream(done), [], f"{at}prints this on the other stream")
+        wrong = difference(self.page, call, self.done[room][place], self.by_blocks)
+        self.assertFalse(wrong, wrong)
 
     def test_tables_come_back_from_their_dumps(self) -> None:
         """The table files of a section are the same after a dump and a load."""

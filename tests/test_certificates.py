@@ -2,10 +2,6 @@
 from tests import pages
 
 
-class CertificatesPage(pages.Page, page="docs/CERTIFICATES.md"):
-    """The commands of the page."""
-
-
 class Certificates(pages.Page, page="cases/certificates.md"):
     """Whole certificates."""
 

@@ -2,9 +2,5 @@
 from tests import pages
 
 
-class Cookbook(pages.Page, page="docs/COOKBOOK.md"):
-    """What users read of it."""
-
-
 class Recipes(pages.Page, page="cases/recipes.md"):
-    """What that page leaves out."""
+    """What the cookbook leaves out."""

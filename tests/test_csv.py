@@ -2,10 +2,6 @@
 from tests import pages
 
 
-class CsvPage(pages.Page, page="docs/CSV.md"):
-    """What users read of it."""
-
-
 class Csv(pages.Page, page="cases/csv.md"):
     """That page row by row."""
 

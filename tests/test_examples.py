@@ -1,5 +1,5 @@
 """The examples: statements in a table of examples/README.md, over the CSV file and over a table
-file of each layout; and the commands of that page and of others."""
+file of each layout."""
 import re
 
 from tests import pages, support
@@ -10,24 +10,6 @@ TABLE = re.compile(r"\| `(SELECT .* FROM (\w+)\b[^`]*)` \| ([^|:]+)")
 
 class Examples(pages.Page, page="cases/examples.md"):
     """What the pages leave out."""
-
-
-class Readme(pages.Page, page="README.md"):
-    """The commands of the page, the first of which is `./bw`."""
-
-    def folder_of(self, room):
-        folder = super().folder_of(room)
-        if not (folder / "bw").exists():
-            (folder / "bw").symlink_to(support.BW)
-        return folder
-
-
-class ExamplesPage(pages.Page, page="examples/README.md"):
-    """The commands of the page."""
-
-
-class Use(pages.Page, page="docs/USE.md"):
-    """The commands of the page."""
 
 
 class Answers(support.TestCase):

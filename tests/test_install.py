@@ -14,6 +14,7 @@ import signal
 import subprocess
 import sys
 import time
+import zipfile
 
 import bwtools
 
@@ -23,14 +24,22 @@ from tests.support import BW, LONGEST, PYTHON, ROOT, TOOLS, copy_python
 # the options of every command
 SHARED = {"--explain", "--help"}
 
+# setuptools before 71 makes packages by wheel
+HAS_TOOLS = """
+from importlib.metadata import version
+at = int(version('setuptools').split('.')[0])
+assert at >= 61 and version('pip')
+if at < 71: version('wheel')
+"""
 
-def run(words, **names):
+
+def run(words, cwd=None, **names):
     """Runs a command with only the system on its PATH."""
     names = {"PATH": f"{pathlib.Path(sys.executable).parent}:/usr/bin:/bin",
              "HOME": "/nonexistent", "LC_ALL": "C.UTF-8", **names}
     done = subprocess.run(list(map(str, words)), stdin=subprocess.DEVNULL, check=False, text=True,
                           stdout=subprocess.PIPE, stderr=subprocess.PIPE, timeout=LONGEST,
-                          env=names)
+                          env=names, cwd=cwd)
     return support.Done(done.returncode, done.stdout, done.stderr)
 
 
@@ -109,6 +118,8 @@ class Install(Installed):
     def test_from_the_tar(self):
         if not (ROOT / "dist" / "bw").exists():
             self.skipTest("the packed tar: dist/bw isn't there")
+        if not shutil.which("xz"):
+            self.skipTest("the packed tar: install xz-utils")
         for name in ("bw.tar.xz", "two.tar.xz"):
             # in a hurry
             done = run([ROOT / "scripts" / "ship", "--pack", self.folder / name], XZ_OPT="-0")
@@ -162,6 +173,11 @@ class Install(Installed):
         done = run([tree / "install", self.folder / "q"], BW=str(self.folder / "none"))
         self.assertEqual(done.status, 3)
         self.assertIn("is not a program", done.err)
+        self.assertFalse((self.folder / "q").exists())
+        (self.folder / "foreign").write_bytes(b"\x7fELF of another system")
+        done = run([tree / "install", self.folder / "q"], BW=str(self.folder / "foreign"))
+        self.assertEqual((done.status, done.err.count("\n")), (3, 1))
+        self.assertIn("doesn't run here: it needs Linux with glibc 2.34 or later", done.err)
         self.assertFalse((self.folder / "q").exists())
         (self.folder / "file").write_text("mine")
         self.assertEqual(self.install(self.folder / "file", top=tree).status, 5)
@@ -315,15 +331,64 @@ class Copies(Installed):
         self.assertIn("proving", done.err)
 
 
-class Pip(Installed):
-    """pip installs the package, if setuptools is installed, and its programs work."""
+def has_pip(python):
+    """Returns whether a Python has a pip that installs for another one, 22.3 or later."""
+    test = "from importlib.metadata import version as v; assert v('pip') >= '22.3'"
+    return os.path.exists(python) and run([python, "-c", test]).status == 0
 
-    def test_pip(self):
-        # setuptools before 71 makes packages by wheel
-        test = ("from importlib.metadata import version\nat = int(version('setuptools')"
-                ".split('.')[0]); assert at >= 61 and version('pip')\nif at < 71: version('wheel')")
+
+class Pip(Installed):
+    """pip installs the wheel that scripts/wheel packs, and its programs work with nothing else."""
+
+    def pack(self, name, umask=0o022):
+        """Packs a wheel in a folder, and returns its path."""
+        done = subprocess.run([sys.executable, ROOT / "scripts" / "wheel", self.folder / name],
+                              check=False, text=True, stdout=subprocess.PIPE,
+                              stderr=subprocess.PIPE, umask=umask)
+        if done.returncode == 3:
+            self.skipTest(f"the wheel: {done.stderr.rpartition(': ')[2].strip()}")
+        self.assertEqual((done.returncode, done.stderr), (0, ""))
+        return pathlib.Path(done.stdout.strip())
+
+    def test_the_wheel(self):
+        wheel = self.pack("one")
+        self.assertRegex(wheel.name, r"\Abwtools-[\d.]+-py3-none-manylinux_2_34_x86_64\.whl\Z")
+        self.assertEqual(wheel.read_bytes(), self.pack("two", 0o077).read_bytes())
+        with zipfile.ZipFile(wheel) as parts:
+            told = parts.read(next(name for name in parts.namelist() if "METADATA" in name))
+        for line in (b"Provides-Extra: pandas", b"Provides-Extra: dask", b"bw-import fares.csv"):
+            self.assertIn(line, told)
+        python = next(filter(has_pip, (sys.executable, "/usr/bin/python3")), None)
+        if not python:
+            self.skipTest("the wheel: install python3-pip, 22.3 or later")
+        venv = self.folder / "venv"
+        for words in (["venv", "--without-pip", venv],
+                      ["pip", "--python", venv / "bin" / "python", "install", "--no-index",
+                       "--no-compile", "--quiet", wheel]):
+            done = run([python, "-m", *words], HOME=str(self.folder))
+            self.assertEqual(done.status, 0, done)
+        self.assertLessEqual({"bw", *TOOLS}, set(os.listdir(venv / "bin")))
+        self.assertEqual((venv / "bin" / "bw").read_bytes(), BW.read_bytes())
+        self.assertTrue((venv / "share" / "man" / "man1" / "bw.1").exists())
+        self.check_environment(venv)
+
+    def check_environment(self, venv):
+        """Tests that the programs of an environment work, activated or not, with the program that
+        came with them and not another one of the PATH."""
+        support.write_script(self.folder / "bw", "echo another bw >&2\nexit 1")
+        path = f"{self.folder}:/usr/bin:/bin"
+        self.assert_works(venv / "bin", PATH=path)
+        done = run([venv / "bin" / "python", "-c", "import bwtools; print(bwtools.connect('t.bw')"
+                    ".execute('SELECT SUM(fare) FROM t').fetchone())"], self.folder, PATH=path)
+        self.assertEqual(done, (0, "(Decimal('14.55'),)\n", ""))
+        activated = f". '{venv}/bin/activate'; bw --version; bw-ask --version"
+        self.assertEqual(run(["sh", "-c", activated]).out,
+                         f"{run([BW, '--version']).out}bw-ask {bwtools.__version__}\n")
+
+    def test_the_tree(self):
+        """pip installs the package without a program, too: that of the PATH works."""
         python = next((each for each in dict.fromkeys((sys.executable, "/usr/bin/python3"))
-                       if os.path.exists(each) and run([each, "-c", test]).status == 0), None)
+                       if os.path.exists(each) and run([each, "-c", HAS_TOOLS]).status == 0), None)
         if not python:
             self.skipTest("pip: install setuptools, and wheel")
         copy_python(self.folder / "python")

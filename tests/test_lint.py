@@ -22,7 +22,8 @@ STRICT = ["--strict", "--python-version", "3.9", "--ignore-missing-imports", "--
 TYPED = [f"tests/{name}.py" for name in ("support", "pages", "drawn", "drawn_numbers", "reference",
                                        "drawn_select", "selects", "drawn_programs",
                                        "second_checker")]
-TYPED += ["verify/check.py", "verify/answer.py", "scripts/pictures.py"]
+TYPED += ["verify/check.py", "verify/answer.py", "scripts/pictures.py", "scripts/wheel",
+          "bench/pictures.py"]
 WORD = re.compile(r"[^\s(){}\[\],;.:λ@]+")
 # a definition or lemma at the margin: its name, and the block that it belongs to
 HEAD = re.compile(r"^(?:(?:pub|abbrev|unfoldable|opaque) )*([^\s(){}\[\],;.:]+) :(?: (.*))?$")
@@ -33,10 +34,13 @@ BLOCK = ("pub", "record", "data", "module")
 def sources():
     """Returns the files of Python and of shell that git knows, or, without git, all that are here,
     by language."""
-    done = subprocess.run(["git", "-c", "safe.directory=*", "ls-files", "-z"], cwd=ROOT,
-                          stdout=subprocess.PIPE, stderr=subprocess.PIPE, text=True, check=False)
-    names = done.stdout.split("\0") if done.returncode == 0 else \
-        [str(path.relative_to(ROOT)) for path in ROOT.rglob("*")]
+    try:
+        listed = subprocess.run(["git", "-c", "safe.directory=*", "ls-files", "-z"], cwd=ROOT,
+                                stdout=subprocess.PIPE, stderr=subprocess.PIPE, text=True,
+                                check=True).stdout
+    except (OSError, subprocess.CalledProcessError):
+        listed = "\0".join(str(path.relative_to(ROOT)) for path in ROOT.rglob("*"))
+    names = listed.split("\0")
     found = collections.defaultdict(list)
     for name in filter(None, names):
         path = ROOT / name

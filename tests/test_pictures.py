@@ -1,4 +1,5 @@
-"""Pictures of scan programs: that of docs/CERTIFICATES.md, and others that scripts/draw makes."""
+"""Pictures of scan programs: that of docs/CERTIFICATES.md, and others that scripts/draw makes; and
+those of docs/BENCHMARKS.md, which bench/pictures.py draws."""
 import re
 import xml.etree.ElementTree
 
@@ -60,3 +61,10 @@ class Drawn(support.TestCase):
         done = self.draw("--all", ROOT / "examples" / "large_a.prog")
         self.assertEqual((done.status, done.err), (0, ""))
         self.assertTrue(done.out.startswith("digraph program {"))
+
+
+class Figures(support.TestCase):
+    """The pictures of figures."""
+
+    def test_each_is_that_of_its_table(self):
+        self.assertEqual(support.run([ROOT / "bench" / "pictures.py", "--check"]), (0, "", ""))

@@ -45,7 +45,10 @@ QUOTE = re.compile(r"^```\w+ (crates/\S+)\n(.*?)^```$", re.MULTILINE | re.DOTALL
 COUNTED = re.compile(r"^\| `(bw\w*/specs/\w+\.antt)` \| (\d+) \|", re.MULTILINE)
 README, BENCHMARKS = ROOT / "README.md", ROOT / "docs" / "BENCHMARKS.md"
 # README's columns of times, and the columns of docs/BENCHMARKS.md that they are taken from
-TIMES = {"bw": "bw, planes", "C, `gcc -O2`": "C, planes", "SQLite, no index": "sqlite3"}
+TIMES = {"bw": "bw, planes, ms", "C, tuned by hand": "tuned C, planes, ms",
+         "SQLite, no index": "sqlite3"}
+# how many words README and all pages together may have
+WORDS, ALL_WORDS = 950, 33_000
 
 
 def owner(line):
@@ -245,8 +248,8 @@ def amiss_in_figures(readme, benchmarks):
     """Returns how many of README's figures were compared, and a message for each wrong one."""
     wrong, measured, ratios = [], {}, []
     for head, cells in tables(benchmarks):
-        if head[0] == "Question, ms":
-            measured[cells[0]] = dict(zip(head, cells))
+        if head[0].startswith("Question") and set(head) & set(TIMES.values()):
+            measured.setdefault(cells[0], {}).update(zip(head, cells))
         ratios += [float(cell) for name, cell in zip(head, cells) if name == "bw / tuned C"]
     rows = [dict(zip(head, cells)) for head, cells in tables(readme) if head[0] == "Query"]
     for row in rows:
@@ -265,7 +268,7 @@ def amiss_in_figures(readme, benchmarks):
 
 def all_pages():
     """Returns the pages that document the project, without the lists of cases."""
-    return [ROOT / name for name in ("README.md", "CONTRIBUTING.md", "CHANGELOG.md",
+    return [ROOT / name for name in ("README.md", "CONTRIBUTING.md", "CHANGELOG.md", "SECURITY.md",
                                      "examples/README.md", "cases/README.md",
                                      "bench/TRIED.md")] + sorted((ROOT / "docs").glob("*.md"))
 
@@ -512,6 +515,11 @@ class Pages(support.TestCase):
         wrong = amiss_in_figures(README.read_text(encoding="utf-8"),
                                  BENCHMARKS.read_text(encoding="utf-8"))[1]
         self.assertEqual(wrong, [])
+
+    def test_lengths(self):
+        words = {page: len(page.read_text(encoding="utf-8").split()) for page in all_pages()}
+        self.assertLessEqual(words[README], WORDS)
+        self.assertLessEqual(sum(words.values()), ALL_WORDS)
 
     def test_quotes_of_theorem(self):
         quotes, wrong = amiss_in_quotes(THEOREM.read_text(encoding="utf-8"))

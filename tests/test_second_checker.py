@@ -6,16 +6,12 @@ import pathlib
 import sys
 import tempfile
 
-from tests import pages, second_checker, support
+from tests import second_checker, support
 from tests.support import ROOT
 
 SEED = 97
 # how many lines a file may have, and which of ours it may import
 LIMITS = {"check": (500, set()), "answer": (300, {"check"})}
-
-
-class VerifyPage(pages.Page, page="docs/VERIFY.md"):
-    """The commands of the page."""
 
 
 @functools.lru_cache(None)

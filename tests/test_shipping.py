@@ -84,6 +84,21 @@ class Trees(support.TestCase):
         return done.returncode, done.stdout.splitlines()
 
 
+class Elsewhere(Trees):
+    """What ./bw says where the shipped program can't run, as on an older system."""
+
+    def test_an_older_system(self):
+        old = "echo 'libc.so.6: version `GLIBC_2.34'\"'\"' not found' >&2; exit 1"
+        support.write_script(self.shipped, old)
+        program = self.printed("sha256sum", self.shipped).split()[0]
+        self.write_record({**self.record, "program": program})
+        for words in (["query", "t.bw", "SELECT * FROM t"], ["--where"]):
+            status, lines = self.run_in("./bw", *words)
+            self.assertEqual((status, len(lines)), (2, 1), lines)
+            self.assertRegex(lines[0], r"\Abw: dist/bw needs Linux with glibc 2\.34 or later on a "
+                                       r"processor of x86-64-v2; this is Linux \S+ glibc [\d.]+\Z")
+
+
 class Shipped(Trees):
     """The comparison of dist/ for kits of the recorded and of other labels and logics, and for
     programs of other bytes."""

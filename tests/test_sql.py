@@ -2,10 +2,6 @@
 from tests import pages
 
 
-class SqlPage(pages.Page, page="docs/SQL.md"):
-    """What users read of it."""
-
-
 class Sql(pages.Page, page="cases/sql.md"):
     """That page row by row."""
 

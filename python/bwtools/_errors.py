@@ -40,9 +40,9 @@ class Ended(Exception):
 
 
 def program() -> str:
-    """Returns the program bw: that of the environment variable BW, else the one on the PATH, else
-    the one that the package came with."""
-    found = os.environ.get("BW") or on_path("bw") or own_program()
+    """Returns the program bw: that of the environment variable BW, else the one that pip installed
+    with the package, else the one on the PATH, else the one that the package came with."""
+    found = os.environ.get("BW") or installed_program() or on_path("bw") or own_program()
     if not found:
         raise Refused("no program bw on the PATH: set BW=FILE to its path")
     return found
@@ -60,9 +60,19 @@ def on_path(name: str) -> str | None:
     return next((path for path in paths if is_program(path)), None)
 
 
+def installed_program() -> str | None:
+    """Returns the program that pip installed with the package, or None: that of the environment,
+    whether or not it is activated, or of the folder of `pip install --target`. Elsewhere the
+    package is in a folder `python`."""
+    folder = os.path.dirname(os.path.dirname(os.path.realpath(__file__)))
+    tops = (os.path.dirname(os.path.dirname(os.path.dirname(folder))), folder)
+    paths = [os.path.join(top, "bin", "bw") for top in tops if os.path.basename(folder) != "python"]
+    return next((path for path in paths if is_program(path)), None)
+
+
 def own_program() -> str | None:
     """Returns the program that the package came with, or None: that of a checkout's dist/, if it
-    runs here, else one beside the package's folder, else one that was installed with it."""
+    runs here, else one beside the package's folder, else one that ./install put there."""
     top = os.path.dirname(os.path.dirname(os.path.dirname(os.path.realpath(__file__))))
     shipped = os.path.join(top, "dist", "bw")
     if is_program(shipped) and runs(shipped):

@@ -250,7 +250,8 @@ fn program<'a>(alloc: Global) -> Command<'a> {
         .version(VERSION)
         .after_help(
             "From a CSV file to answers:\n  bw infer rows.csv > rows.schema\n  bw load rows.schema rows.csv rows.bw\n  \
-             bw query rows.bw 'SELECT COUNT(*) FROM t'",
+             bw query rows.bw 'SELECT COUNT(*) FROM t'\n\n\
+             To read this page by page: bw --help 2>&1 | less",
         )
         .subcommand_required(true)
         .disable_help_subcommand(true)
