@@ -57,10 +57,30 @@ loop-encoder-preserved-in_ok-add_segment c =
     }
 
 pub loop-encoder-smaller : goal.loop-encoder-smaller
-loop-encoder-smaller = loop-encoder-smaller-in_ok-add_segment
+loop-encoder-smaller c =
+    let gave = segment_of (rw c.in-Some.is at c.in_ok-segment.ensures) in
+    let some = (any_is_group c.in-Some.segment).nonempty in
+    omega (arith, gave.row_count, some, gave.same.rows, c.next_segment.new.self.within)
 
 pub loop-encoder-preserved : goal.loop-encoder-preserved
-loop-encoder-preserved = loop-encoder-preserved-in_ok-add_segment
+loop-encoder-preserved c =
+    let gave = segment_of (rw c.in-Some.is at c.in_ok-segment.ensures) in
+    let groups = c.loop-encoder.invariant.groups in
+    let rows = (any_meaning c.in-Some.segment).rows in
+    let f = replaced_row (schema_in c.loop-encoder.reader).columns.items (replacements_in c.args.replacements.now) in
+    let all : map f (together (groups ++ rows ∷ [])) ≡ map f (together groups) ++ map f rows = ap (λ (rows : List (List Value)). map f rows) (together_more groups rows) ∙ map-append f (together groups) rows in
+    record {
+      goes_on = gave.goes_on;
+      groups = groups ++ rows ∷ [];
+      read = λ table began. gave.after _ groups (c.loop-encoder.invariant.read table began);
+      holds = rw (gave.same.schema, all) (rw gave.of_table.columns at (c.in_ok-add_segment.ensures.holds _ c.loop-encoder.invariant.holds));
+      rows = omega (arith, c.in_ok-add_segment.ensures.rows, c.loop-encoder.invariant.rows, gave.row_count);
+      layout = c.in_ok-add_segment.ensures.same.0 ∙ c.loop-encoder.invariant.layout ∙ sym gave.same.layout;
+      same_layout = gave.same.layout ∙ c.loop-encoder.invariant.same_layout;
+      same_schema = gave.same.schema ∙ c.loop-encoder.invariant.same_schema;
+      name = ap (λ (schema : Schema). schema.name) c.in_ok-add_segment.ensures.same.1 ∙ c.loop-encoder.invariant.name;
+      columns = ap (λ (schema : Schema). schema.columns.items) c.in_ok-add_segment.ensures.same.1 ∙ c.loop-encoder.invariant.columns;
+    }
 
 pub returns-clause-file : goal.returns-clause-file
 returns-clause-file c =
