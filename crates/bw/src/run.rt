@@ -132,11 +132,12 @@ fn run_command<'a>(
         CommandArgs::Direct { schema, csv, sql } => run_direct(rt, schema, csv, sql)?,
         CommandArgs::Infer { name, csv } => run_infer(rt, name, csv)?,
         CommandArgs::Load {
+            order,
             layout,
             schema,
             csv,
             out,
-        } => run_load(rt, layout, schema, csv, out)?,
+        } => run_load(rt, order, layout, schema, csv, out)?,
         CommandArgs::Encode {
             marks,
             selected,

@@ -5,11 +5,13 @@ ghost use Rattle.bw_query.specs.ProgramCache.{Serves};
 
 use crate::explain::explain_statement;
 use crate::failure::{CommandFailure, or_failure, or_write_failure};
+use crate::file_at::FileAt;
 use crate::in_file::InFile;
 use crate::opened::{input_ahead, open, read_ahead, read_program};
 use crate::out_stream::OutStream;
 use crate::run::quiet_status;
 use bw_file::ToWrite;
+use bw_memory::{ColumnarTable, is_by_columns};
 use bw_model::{Fault, Schema, code};
 use bw_shell::{
     Listener, MemoryTable, ProgramCache, Served, answer_statements, report, stats_line,
@@ -26,11 +28,28 @@ pub fn run_session<'a>(
     table_path: &'a str,
     told: bool,
 ) -> Result<u8, CommandFailure<'a>> {
-    let file = open(rt, table_path)?;
+    let mut file = open(rt, table_path)?;
     let files = read_programs(rt, paths)?;
-    let table = table_of(rt, table_path, file)?;
-    let mut programs = programs_for(rt, &table, paths, files)?;
-    answer_input(rt, &table, &mut programs, stats, told)
+    if is_by_columns(&mut FileAt::new(&mut file)) {
+        let columnar = columns_of(rt, table_path, file)?;
+        answer_over(rt, columnar.table(), paths, files, stats, told)
+    } else {
+        let table = table_of(rt, table_path, file)?;
+        answer_over(rt, &table, paths, files, stats, told)
+    }
+}
+
+/// Runs the statements of standard input over a table in memory, with these program files.
+fn answer_over<'a>(
+    rt: &HostRuntime,
+    table: &MemoryTable,
+    paths: &[&'a str],
+    files: Vec<Vec<u8>>,
+    stats: bool,
+    told: bool,
+) -> Result<u8, CommandFailure<'a>> {
+    let mut programs = programs_for(rt, table, paths, files)?;
+    answer_input(rt, table, &mut programs, stats, told)
 }
 
 /// Runs the statements of standard input over a table in memory. Returns the status of the first
@@ -107,6 +126,16 @@ fn table_of<'a>(
     let mut source = read_ahead(rt, &mut file)?;
     let done = MemoryTable::read(rt.alloc(), &mut source);
     drop(source);
+    or_failure(done, &[(path, file.reads())])
+}
+
+/// Returns the table of a file by columns, all of which were read into memory.
+fn columns_of<'a>(
+    rt: &HostRuntime,
+    path: &'a str,
+    mut file: InFile,
+) -> Result<ColumnarTable, CommandFailure<'a>> {
+    let done = ColumnarTable::read(rt.alloc(), &mut FileAt::new(&mut file));
     or_failure(done, &[(path, file.reads())])
 }
 

@@ -13,7 +13,7 @@ Word = Bor (List ℕ)
 -- SCHEMA
 abbrev pub schema_of : CommandArgs → Option Word
 schema_of (Direct schema csv sql) = Some schema
-schema_of (Load layout schema csv out) = Some schema
+schema_of (Load order layout schema csv out) = Some schema
 schema_of (Recode table schema numbers out) = Some schema
 schema_of (Plan schema sql) = Some schema
 schema_of (Certify schema sql program) = Some schema
@@ -24,7 +24,7 @@ schema_of _ = None
 abbrev pub csv_of : CommandArgs → Option Word
 csv_of (Direct schema csv sql) = Some csv
 csv_of (Infer name csv) = Some csv
-csv_of (Load layout schema csv out) = Some csv
+csv_of (Load order layout schema csv out) = Some csv
 csv_of (Encode marks selected layout csv out fields) = Some csv
 csv_of _ = None
 
@@ -65,7 +65,7 @@ name_of _ = None
 
 -- OUT
 abbrev pub out_of : CommandArgs → Option Word
-out_of (Load layout schema csv out) = Some out
+out_of (Load order layout schema csv out) = Some out
 out_of (Encode marks selected layout csv out fields) = Some out
 out_of (Recode table schema numbers out) = Some out
 out_of _ = None
@@ -74,8 +74,8 @@ out_of _ = None
 abbrev pub usage_of : CommandArgs → List ℕ
 usage_of (Direct schema csv sql) = codes "bw direct SCHEMA CSV SQL"
 usage_of (Infer name csv) = codes "bw infer [--table NAME] CSV"
-usage_of (Load layout schema csv out) = codes
-    "bw load [--layout planes|slices] SCHEMA CSV OUT"
+usage_of (Load order layout schema csv out) = codes
+    "bw load [--columnar] [--layout planes|slices] SCHEMA CSV OUT"
 usage_of (Encode marks selected layout csv out fields) = codes "bw encode [OPTIONS] CSV OUT FIELDS"
 usage_of (Recode table schema numbers out) = codes "bw recode IN SCHEMA NUMBERS OUT"
 usage_of (Query program stats table sql) = codes "bw query [--program FILE] [--stats] TABLE SQL"

@@ -3,7 +3,7 @@ ghost use Rattle.std.specs.Prelude.{◌≡◌};
 ghost use Rattle.bw_cli.specs.Arguments.{csv_of, name_of, numbers_of, out_of, program_of};
 ghost use Rattle.bw_cli.specs.Arguments.{schema_of, sql_of, table_of, usage_of};
 
-use bw_file::Layout;
+use bw_file::{FileOrder, Layout};
 
 /// The options of `bw encode` that name marks of a CSV text, as they were given, and whether text
 /// may follow a closing quotation mark.
@@ -38,6 +38,7 @@ pub enum CommandArgs<'a> {
         csv: &'a str,
     },
     Load {
+        order: FileOrder,
         layout: Layout,
         schema: &'a str,
         csv: &'a str,
@@ -186,7 +187,9 @@ impl<'a> CommandArgs<'a> {
         match self {
             CommandArgs::Direct { .. } => "bw direct SCHEMA CSV SQL",
             CommandArgs::Infer { .. } => "bw infer [--table NAME] CSV",
-            CommandArgs::Load { .. } => "bw load [--layout planes|slices] SCHEMA CSV OUT",
+            CommandArgs::Load { .. } => {
+                "bw load [--columnar] [--layout planes|slices] SCHEMA CSV OUT"
+            },
             CommandArgs::Encode { .. } => "bw encode [OPTIONS] CSV OUT FIELDS",
             CommandArgs::Recode { .. } => "bw recode IN SCHEMA NUMBERS OUT",
             CommandArgs::Query { .. } => "bw query [--program FILE] [--stats] TABLE SQL",

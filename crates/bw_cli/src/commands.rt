@@ -1,10 +1,10 @@
 //! The commands, their arguments and their help: `bw direct SCHEMA CSV SQL`, `bw infer [--table
-//! NAME] CSV`, `bw load [--layout planes|slices] SCHEMA CSV OUT`, `bw encode [OPTIONS] CSV OUT
-//! FIELDS`, `bw recode IN SCHEMA NUMBERS OUT`, `bw query [--program FILE] [--stats] TABLE SQL`, `bw session [--program FILE]... [--stats] TABLE`, `bw plan SCHEMA SQL`,
+//! NAME] CSV`, `bw load [--columnar] [--layout planes|slices] SCHEMA CSV OUT`, `bw encode [OPTIONS]
+//! CSV OUT FIELDS`, `bw recode IN SCHEMA NUMBERS OUT`, `bw query [--program FILE] [--stats] TABLE SQL`, `bw session [--program FILE]... [--stats] TABLE`, `bw plan SCHEMA SQL`,
 //! `bw certify SCHEMA SQL PROGRAM`, `bw check SCHEMA SQL FILE`, `bw info TABLE` and `bw dump TABLE`.
 //! Each takes `--explain`, before the command or after it.
 use crate::args::{CommandArgs, Marks, Selected};
-use bw_file::Layout;
+use bw_file::{FileOrder, Layout};
 use clap::{Arg, ArgAction, ArgMatches, Command, Error};
 use std::alloc::{AllocError, Global};
 
@@ -21,6 +21,7 @@ enum ArgSpec {
     /// An option with a value, which may be repeated if values are appended: its name, its value's
     /// name, and its help.
     Valued(ArgAction, &'static str, &'static str, &'static str),
+    Columnar,
     Layout,
     Lenient,
     Fill,
@@ -149,7 +150,7 @@ const COMMANDS: [CommandSpec; 12] = [
         name: "load",
         about: "Load a CSV file into a table file",
         example: "Example: bw load trips.schema trips.csv trips.bw",
-        takes: &[ArgSpec::Layout, SCHEMA, CSV, OUT],
+        takes: &[ArgSpec::Columnar, ArgSpec::Layout, SCHEMA, CSV, OUT],
     },
     CommandSpec {
         name: "encode",
@@ -285,6 +286,9 @@ fn argument<'a>(alloc: Global, spec: ArgSpec) -> Arg<'a> {
             .action(ArgAction::Set)
             .value_parser(["planes", "slices"].as_slice())
             .help("How to store segments: as bit planes (the default) or byte slices"),
+        ArgSpec::Columnar => flag(alloc, "columnar").help(
+            "Write a file by columns, of which a query reads only the columns that it names",
+        ),
         ArgSpec::Lenient => flag(alloc, "lenient").help(
             "Accept text after a closing quotation mark, and one that is open at the end",
         ),
@@ -361,6 +365,7 @@ fn text_args<'a>(name: &str, found: &ArgMatches<'a>) -> Option<CommandArgs<'a>> 
     let schema = found.get_str("SCHEMA")?;
     Some(match name {
         "load" => CommandArgs::Load {
+            order: order_of(found),
             layout: layout_of(found),
             schema,
             csv: found.get_str("CSV")?,
@@ -421,6 +426,15 @@ fn layout_of(matches: &ArgMatches<'_>) -> Layout {
     match matches.get_str("layout") {
         Some("slices") => Layout::Slices,
         _ => Layout::Planes,
+    }
+}
+
+/// Returns the order of blocks that `--columnar` asks for; by rows, if it isn't given.
+fn order_of(matches: &ArgMatches<'_>) -> FileOrder {
+    if matches.get_flag("columnar") {
+        FileOrder::ByColumns
+    } else {
+        FileOrder::ByRows
     }
 }
 

@@ -13,3 +13,4 @@ pub mod FactLemmas
 pub mod InferExits
 pub mod InfoExits
 pub mod SizeLemmas
+pub mod LoadLemmas

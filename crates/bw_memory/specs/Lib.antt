@@ -4,3 +4,4 @@ pub mod Filling
 pub mod StoredSegments
 pub mod MemoryTable
 pub mod ReadSegments
+pub mod NamedRows

@@ -26,10 +26,13 @@
 mod columnar;
 mod columns;
 mod filling;
+mod laws;
 mod layouts;
 mod opening;
 mod reading;
 mod table;
 
 pub use columnar::ColumnarTable;
+pub use laws::columns_are_those_of_the_file;
+pub use opening::is_by_columns;
 pub use table::MemoryTable;

@@ -1,7 +1,9 @@
 pub mod CacheLemmas
+pub mod ColumnarExits
 pub mod GroupLemmas
 pub mod ItemLemmas
 pub mod MemoryExits
+pub mod NamingLemmas
 pub mod ScanLemmas
 pub mod TableExits
 pub mod TableLemmas

@@ -8,3 +8,5 @@ pub mod Segments
 pub mod Consumers
 pub mod SegmentLemmas
 pub mod Trial
+pub mod NamedColumns
+pub mod ColumnarAnswer

@@ -21,6 +21,9 @@ returns-in_err-validate_column-clause-refused g c =
       first = subst (λ n. IsFirstFault table c.args.col (piece_of c.deref-2.result.now size) n c.in_err-validate_column.field-0.0) c.place_of-at.ensures.place c.in_err-validate_column.ensures.fault;
     }))
 
+pub returns-in_err-validate_column-clause-fault : goal.returns-in_err-validate_column-clause-fault
+returns-in_err-validate_column-clause-fault g c = rw (err_passed_on _ c.from_residual-in_err-validate_column.ensures.1) c.in_err-validate_column.ensures.table
+
 pub returns-clause-read : goal.returns-clause-read
 returns-clause-read g c =
     let table = c.args.self.now.table in
