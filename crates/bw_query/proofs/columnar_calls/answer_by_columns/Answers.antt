@@ -88,6 +88,17 @@ returns-clause-served g c =
 
 pub returns-clause-answer : goal.returns-clause-answer
 returns-clause-answer g c =
-    let told = returns-clause-served g c in
-    let goes = rw c.deref.ensures.value at c.in_ok-write_whole.ensures in
-    (Ok c.in_ok-found.found.text.items, told.1, went Served _ _ c.in_ok-found.found.text.items (Ok c.report_of.result) goes)
+    let old = c.in_ok-columnar.columnar in
+    let new = c.text_by_columns.new.columnar in
+    let prepared = c.in_ok-prepared.prepared in
+    let found = c.in_ok-found.found in
+    let file = given_file c.args.program in
+    let asks = by_statement file c.args.sql.now in
+    let asked = rw c.table.ensures at (rw c.schema.ensures at c.in_ok-prepared.ensures.asked) in
+    let chosen = rw c.table.ensures at (rw c.schema.ensures at c.in_ok-prepared.ensures.chosen) in
+    let columns = subst (λ (known : Option (List ℕ)). HasColumns known new (is_read (program_of prepared.scan) prepared.query) (column_count new)) c.in_ok-columnar.ensures.same c.in_ok-found.ensures.read in
+    let goes = rw c.deref.ensures.value at c.in_ok-write_whole.ensures in (
+      Ok found.text.items,
+      text_found asks file _ old new prepared.query prepared.scan c.in_ok-found.ensures.header c.in_ok-columnar.ensures.opened asked chosen found.text.items found.scanned columns c.in_ok-found.ensures.text,
+      went Served _ _ found.text.items (Ok c.report_of.result) goes,
+    )
