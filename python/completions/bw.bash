@@ -15,8 +15,10 @@ _bw() {
         query:--program|session:--program) ;;
         :*) words='infer load encode recode query session direct dump info plan certify check --explain --help --version' ;;
         infer:*) words='--table --explain --help' ;;
-        load:*) words='--layout --explain --help' ;;
-        encode:*) words='--separator --quote --escape --comment --lenient --fill --columns --rows --layout --explain --help' ;;
+        load:*) words='--columnar --layout --explain --help' ;;
+        encode:*) words='--separator --quote --escape --comment --lenient --fill --columns --rows --columnar --layout --explain --help' ;;
+        recode:*) words='--columnar --explain --help' ;;
+        info:*) words='--verify --explain --help' ;;
         query:*) words='--program --stats --explain --help' ;;
         session:*) words='--program --stats --explain --help' ;;
         *) words='--explain --help' ;;

@@ -3,8 +3,8 @@ use crate::failure::{CommandFailure, or_write_failure};
 use crate::opened::{open, open_both};
 use crate::out_file::OutFile;
 use crate::out_stream::OutStream;
-use bw_file::{FromRead, Layout, ToWrite};
-use bw_shell::{direct, infer, load};
+use bw_file::{FileOrder, FromRead, Layout, ToWrite};
+use bw_shell::{direct, infer, load_in_order};
 
 /// Runs `bw direct`. Both files are opened before either is read.
 pub fn run_direct<'a>(
@@ -51,6 +51,7 @@ pub fn run_infer<'a>(
 /// first write.
 pub fn run_load<'a>(
     rt: &HostRuntime,
+    order: FileOrder,
     layout: Layout,
     schema_path: &'a str,
     csv_path: &'a str,
@@ -60,10 +61,11 @@ pub fn run_load<'a>(
     let mut schema_source = FromRead::new(&mut schema);
     let mut csv_source = FromRead::new(&mut csv);
     let mut out = OutFile::new(rt, out);
-    let done = load(
+    let done = load_in_order(
         rt.alloc(),
         &mut schema_source,
         &mut csv_source,
+        order,
         layout,
         &mut out,
     );

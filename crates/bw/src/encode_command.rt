@@ -3,9 +3,9 @@ use crate::failure::{CommandFailure, or_write_failure};
 use crate::opened::open;
 use crate::out_file::OutFile;
 use bw_cli::{Marks, Selected};
-use bw_file::{FromRead, Layout};
+use bw_file::FromRead;
 use bw_model::{Fault, MAX_COLUMNS, MAX_ROWS, code};
-use bw_shell::{Dialect, Selection, encode};
+use bw_shell::{Dialect, FileForm, Selection, encode};
 use std::alloc::{AllocError, Global};
 use std::hash::RandomState;
 
@@ -15,7 +15,7 @@ pub fn run_encode<'a>(
     rt: &HostRuntime,
     marks: Marks<'a>,
     selected: Selected<'a>,
-    layout: Layout,
+    form: FileForm,
     csv_path: &'a str,
     out: &str,
     fields: &str,
@@ -45,7 +45,7 @@ pub fn run_encode<'a>(
         hasher,
         dialect,
         selection,
-        layout,
+        form,
         &mut source,
         &mut fields,
         &mut out,

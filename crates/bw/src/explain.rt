@@ -1,9 +1,12 @@
 //! Prints explanations below an error's line. The files are read again; what can't be read again,
 //! or doesn't fit in memory, is left out.
 use crate::failure::{CommandFailure, Reads};
+use crate::file_at::FileAt;
+use crate::in_file::InFile;
 use bw_cli::CommandArgs;
 use bw_explain::Inputs;
 use bw_file::{FromRead, TableReader};
+use bw_memory::{ColumnarTable, is_by_columns};
 use bw_model::{Fault, MAX_CSV_LEN, Place, Schema, code};
 use bw_shell::{Input, read_limited};
 use std::fs::File;
@@ -153,7 +156,12 @@ fn schema_again(rt: &HostRuntime, words: &CommandArgs<'_>) -> Option<Schema> {
 }
 
 fn schema_of_table(rt: &HostRuntime, path: &str) -> Option<Schema> {
-    let mut table = FromRead::new(regular_file(rt, path)?);
+    let mut file = InFile::new(regular_file(rt, path)?);
+    if is_by_columns(&mut FileAt::new(&mut file)) {
+        let columnar = ColumnarTable::open(rt.alloc(), &mut FileAt::new(&mut file)).ok()?;
+        return columnar.table().schema().copy(rt.alloc()).ok();
+    }
+    let mut table = FromRead::new(&mut file);
     let reader = TableReader::begin(rt.alloc(), &mut table).ok()?;
     reader.schema().copy(rt.alloc()).ok()
 }

@@ -1,8 +1,10 @@
 //! An input file that mustn't change while it is read.
+ghost use Rattle.std.specs.Io.{ReadsAtMost};
+
 use crate::failure::Reads;
 use std::fs::File;
-use std::io::{self, ErrorKind, Read};
-use std::os::unix::fs::MetadataExt;
+use std::io::{self, ErrorKind, Read, Seek, SeekFrom};
+use std::os::unix::fs::{FileExt, MetadataExt};
 
 /// The metadata of a regular file that changes whenever its bytes do.
 #[derive(Clone, Copy)]
@@ -39,7 +41,8 @@ impl Version {
 }
 
 /// A file to read from. At its end, a regular file is compared with what it was when it was opened.
-/// If it has changed, the read that finds the end fails.
+/// If it has changed, the read that finds the end fails. Reads at places compare nothing:
+/// [`InFile::confirm`] does.
 #[derive(Drop)]
 pub struct InFile {
     file: File,
@@ -66,6 +69,37 @@ impl InFile {
     /// Returns whether its reads failed so far, and why.
     pub fn reads(&self) -> Reads {
         self.reads
+    }
+
+    /// Reads from a place on into the front of the buffer. Returns how many bytes were read.
+    pub fn read_at(&mut self, at: u64, buffer: &mut [u8]) -> io::Result<usize>
+        ensures { ReadsAtMost result buffer.new }
+    {
+        let done = self.file.read_at(buffer, at);
+        if let Err(error) = done {
+            self.reads = Reads::Failed(error);
+        }
+        done
+    }
+
+    /// Goes back to the first byte of a regular file. Returns whether it did.
+    pub fn rewind(&mut self) -> bool {
+        match self.file.seek(SeekFrom::Start(0)) {
+            Ok(_) => true,
+            Err(error) => {
+                self.reads = Reads::Failed(error);
+                false
+            }
+        }
+    }
+
+    /// Compares a regular file with what it was when it was opened. Returns whether it's the same.
+    pub fn confirm(&mut self) -> bool {
+        let is_same = !self.has_changed();
+        if !is_same {
+            self.reads = Reads::Changed;
+        }
+        is_same
     }
 
     fn has_changed(&self) -> bool {

@@ -15,6 +15,7 @@ mod csv_commands;
 mod encode_command;
 mod explain;
 mod failure;
+mod file_at;
 mod in_file;
 mod opened;
 mod out_file;

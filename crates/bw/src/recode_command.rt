@@ -2,6 +2,7 @@
 use crate::failure::{CommandFailure, or_failure, or_write_failure};
 use crate::opened::{open, read_numbers, read_schema, read_table};
 use crate::out_file::OutFile;
+use bw_file::FileOrder;
 use bw_io::write_whole;
 use bw_shell::recode;
 
@@ -9,6 +10,7 @@ use bw_shell::recode;
 /// mention. The output is created by the first write.
 pub fn run_recode<'a>(
     rt: &HostRuntime,
+    order: FileOrder,
     table_path: &'a str,
     schema_path: &'a str,
     numbers_path: &'a str,
@@ -20,7 +22,7 @@ pub fn run_recode<'a>(
     let table = read_table(rt, table_path, table)?;
     let schema = read_schema(rt, schema_path, schema)?;
     let numbers = read_numbers(rt, numbers_path, numbers)?;
-    let file = or_failure(recode(rt.alloc(), &table, &schema, &numbers), &[])?;
+    let file = or_failure(recode(rt.alloc(), order, &table, &schema, &numbers), &[])?;
     write_file(rt, out, &file)
 }
 

@@ -11,7 +11,7 @@ use crate::table_commands::{run_dump, run_info, run_query};
 use bw_cli::{CommandArgs, Invocation, USAGE, parse_invocation, process_args};
 use bw_file::ToWrite;
 use bw_model::Fault;
-use bw_shell::{By, report};
+use bw_shell::{By, FileForm, report};
 use std::io::{self, IsTerminal};
 
 /// Runs the command of the process's command line.
@@ -132,25 +132,31 @@ fn run_command<'a>(
         CommandArgs::Direct { schema, csv, sql } => run_direct(rt, schema, csv, sql)?,
         CommandArgs::Infer { name, csv } => run_infer(rt, name, csv)?,
         CommandArgs::Load {
+            order,
             layout,
             schema,
             csv,
             out,
-        } => run_load(rt, layout, schema, csv, out)?,
+        } => run_load(rt, order, layout, schema, csv, out)?,
         CommandArgs::Encode {
             marks,
             selected,
+            order,
             layout,
             csv,
             out,
             fields,
-        } => run_encode(rt, marks, selected, layout, csv, out, fields)?,
+        } => {
+            let form = FileForm { order, layout };
+            run_encode(rt, marks, selected, form, csv, out, fields)?
+        }
         CommandArgs::Recode {
+            order,
             table,
             schema,
             numbers,
             out,
-        } => run_recode(rt, table, schema, numbers, out)?,
+        } => run_recode(rt, order, table, schema, numbers, out)?,
         CommandArgs::Query {
             program,
             stats,
@@ -162,7 +168,7 @@ fn run_command<'a>(
                 explain_fallback(rt, &words);
             }
         }
-        CommandArgs::Info { table } => run_info(rt, table)?,
+        CommandArgs::Info { verify, table } => run_info(rt, verify, table)?,
         CommandArgs::Dump { table } => run_dump(rt, table)?,
         CommandArgs::Plan { schema, sql } => run_plan(rt, schema, sql)?,
         CommandArgs::Certify {

@@ -1,24 +1,28 @@
 //! `bw session`, and its prompts and reports beside its results.
 ghost use Rattle.std.specs.Prelude.{IfOk, None};
+ghost use Rattle.bw_memory.specs.Columnar.{table_in};
+ghost use Rattle.bw_memory.specs.Columns.{IsBlank};
 ghost use Rattle.bw_memory.specs.MemoryTable.{schema_of};
 ghost use Rattle.bw_query.specs.ProgramCache.{Serves};
 
 use crate::explain::explain_statement;
 use crate::failure::{CommandFailure, or_failure, or_write_failure};
+use crate::file_at::FileAt;
 use crate::in_file::InFile;
 use crate::opened::{input_ahead, open, read_ahead, read_program};
 use crate::out_stream::OutStream;
 use crate::run::quiet_status;
 use bw_file::ToWrite;
+use bw_memory::{ColumnStore, ColumnarTable, FileColumns, is_by_columns};
 use bw_model::{Fault, Schema, code};
 use bw_shell::{
     Listener, MemoryTable, ProgramCache, Served, answer_statements, report, stats_line,
 };
 use std::io::IsTerminal;
 
-/// Runs `bw session`: opens the table file, reads the program files and then the table file, and
-/// runs the statements of standard input. Returns the status of the first statement that was
-/// rejected.
+/// Runs `bw session`: opens the table file, reads the program files and then the table file, or of a
+/// file by columns the header, and runs the statements of standard input. Returns the status of the
+/// first statement that was rejected.
 pub fn run_session<'a>(
     rt: &HostRuntime,
     paths: &[&'a str],
@@ -26,31 +30,57 @@ pub fn run_session<'a>(
     table_path: &'a str,
     told: bool,
 ) -> Result<u8, CommandFailure<'a>> {
-    let file = open(rt, table_path)?;
+    let mut file = open(rt, table_path)?;
     let files = read_programs(rt, paths)?;
-    let table = table_of(rt, table_path, file)?;
-    let mut programs = programs_for(rt, &table, paths, files)?;
-    answer_input(rt, &table, &mut programs, stats, told)
+    if is_by_columns(&mut FileAt::new(&mut file)) {
+        let columnar = header_of(rt, table_path, &mut file)?;
+        let columns = FileColumns::new(rt.alloc(), FileAt::new(&mut file), columnar);
+        answer_over(
+            rt,
+            &mut or_failure(columns, &[])?,
+            paths,
+            files,
+            stats,
+            told,
+        )
+    } else {
+        let mut table = table_of(rt, table_path, file)?;
+        answer_over(rt, &mut table, paths, files, stats, told)
+    }
 }
 
-/// Runs the statements of standard input over a table in memory. Returns the status of the first
-/// one that was rejected, or of one for which memory was refused. If none was, but a line of scan
-/// statistics couldn't be written, the session fails (702).
-fn answer_input(
+/// Runs the statements of standard input over a table, with these program files.
+fn answer_over<'a, C: ColumnStore>(
     rt: &HostRuntime,
-    table: &MemoryTable,
+    store: &mut C,
+    paths: &[&'a str],
+    files: Vec<Vec<u8>>,
+    stats: bool,
+    told: bool,
+) -> Result<u8, CommandFailure<'a>> {
+    let mut programs = programs_for(rt, store.table(), paths, files)?;
+    answer_input(rt, store, &mut programs, stats, told)
+}
+
+/// Runs the statements of standard input over a table. Returns the status of the first one that was
+/// rejected, or of one for which memory was refused. If none was, but a line of scan statistics
+/// couldn't be written, the session fails (702).
+fn answer_input<C: ColumnStore>(
+    rt: &HostRuntime,
+    store: &mut C,
     programs: &mut ProgramCache,
     stats: bool,
     told: bool,
 ) -> Result<u8, CommandFailure<'static>>
-    requires { Serves (schema_of table.now).columns.items programs.old }
+    requires { Serves (schema_of (C.table store.old)).columns.items programs.old }
 {
-    let mut teller = Teller::new(rt, table.schema(), stats, told);
+    let schema = or_failure(store.table().schema().copy(rt.alloc()), &[])?;
+    let mut teller = Teller::new(rt, &schema, stats, told);
     let mut statements = input_ahead(rt)?;
     let mut out = OutStream::new(rt.stdout());
     let done = answer_statements(
         rt.alloc(),
-        table,
+        store,
         programs,
         &mut statements,
         &mut ToWrite::new(&mut out),
@@ -108,6 +138,21 @@ fn table_of<'a>(
     let done = MemoryTable::read(rt.alloc(), &mut source);
     drop(source);
     or_failure(done, &[(path, file.reads())])
+}
+
+/// Opens a file by columns, and returns its table, of which no column was read.
+fn header_of<'a>(
+    rt: &HostRuntime,
+    path: &'a str,
+    file: &mut InFile,
+) -> Result<ColumnarTable, CommandFailure<'a>>
+    ensures { IfOk result (λ columnar. IsBlank (table_in columnar)) }
+{
+    let done = ColumnarTable::open(rt.alloc(), &mut FileAt::new(file));
+    match done {
+        Ok(columnar) => Ok(columnar),
+        Err(fault) => Err(CommandFailure::of(fault, &[(path, file.reads())], None)),
+    }
 }
 
 /// The prompt at a terminal, while a statement is awaited.

@@ -13,8 +13,8 @@ Word = Bor (List ℕ)
 -- SCHEMA
 abbrev pub schema_of : CommandArgs → Option Word
 schema_of (Direct schema csv sql) = Some schema
-schema_of (Load layout schema csv out) = Some schema
-schema_of (Recode table schema numbers out) = Some schema
+schema_of (Load order layout schema csv out) = Some schema
+schema_of (Recode order table schema numbers out) = Some schema
 schema_of (Plan schema sql) = Some schema
 schema_of (Certify schema sql program) = Some schema
 schema_of (Check schema sql file) = Some schema
@@ -24,16 +24,16 @@ schema_of _ = None
 abbrev pub csv_of : CommandArgs → Option Word
 csv_of (Direct schema csv sql) = Some csv
 csv_of (Infer name csv) = Some csv
-csv_of (Load layout schema csv out) = Some csv
-csv_of (Encode marks selected layout csv out fields) = Some csv
+csv_of (Load order layout schema csv out) = Some csv
+csv_of (Encode marks selected order layout csv out fields) = Some csv
 csv_of _ = None
 
 -- TABLE, or the IN of `bw recode`
 abbrev pub table_of : CommandArgs → Option Word
 table_of (Query program stats table sql) = Some table
-table_of (Recode table schema numbers out) = Some table
+table_of (Recode order table schema numbers out) = Some table
 table_of (Session stats table) = Some table
-table_of (Info table) = Some table
+table_of (Info verify table) = Some table
 table_of (Dump table) = Some table
 table_of _ = None
 
@@ -46,7 +46,7 @@ program_of _ = None
 
 -- NUMBERS
 abbrev pub numbers_of : CommandArgs → Option Word
-numbers_of (Recode table schema numbers out) = Some numbers
+numbers_of (Recode order table schema numbers out) = Some numbers
 numbers_of _ = None
 
 -- SQL
@@ -65,22 +65,23 @@ name_of _ = None
 
 -- OUT
 abbrev pub out_of : CommandArgs → Option Word
-out_of (Load layout schema csv out) = Some out
-out_of (Encode marks selected layout csv out fields) = Some out
-out_of (Recode table schema numbers out) = Some out
+out_of (Load order layout schema csv out) = Some out
+out_of (Encode marks selected order layout csv out fields) = Some out
+out_of (Recode order table schema numbers out) = Some out
 out_of _ = None
 
 -- how the help prints the command
 abbrev pub usage_of : CommandArgs → List ℕ
 usage_of (Direct schema csv sql) = codes "bw direct SCHEMA CSV SQL"
 usage_of (Infer name csv) = codes "bw infer [--table NAME] CSV"
-usage_of (Load layout schema csv out) = codes
-    "bw load [--layout planes|slices] SCHEMA CSV OUT"
-usage_of (Encode marks selected layout csv out fields) = codes "bw encode [OPTIONS] CSV OUT FIELDS"
-usage_of (Recode table schema numbers out) = codes "bw recode IN SCHEMA NUMBERS OUT"
+usage_of (Load order layout schema csv out) = codes
+    "bw load [--columnar] [--layout planes|slices] SCHEMA CSV OUT"
+usage_of (Encode marks selected order layout csv out fields) = codes "bw encode [OPTIONS] CSV OUT FIELDS"
+usage_of (Recode order table schema numbers out) = codes
+    "bw recode [--columnar] IN SCHEMA NUMBERS OUT"
 usage_of (Query program stats table sql) = codes "bw query [--program FILE] [--stats] TABLE SQL"
 usage_of (Session stats table) = codes "bw session [--program FILE]... [--stats] TABLE"
-usage_of (Info table) = codes "bw info TABLE"
+usage_of (Info verify table) = codes "bw info [--verify] TABLE"
 usage_of (Dump table) = codes "bw dump TABLE"
 usage_of (Plan schema sql) = codes "bw plan SCHEMA SQL"
 usage_of (Certify schema sql program) = codes "bw certify SCHEMA SQL PROGRAM"

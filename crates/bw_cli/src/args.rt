@@ -3,7 +3,7 @@ ghost use Rattle.std.specs.Prelude.{◌≡◌};
 ghost use Rattle.bw_cli.specs.Arguments.{csv_of, name_of, numbers_of, out_of, program_of};
 ghost use Rattle.bw_cli.specs.Arguments.{schema_of, sql_of, table_of, usage_of};
 
-use bw_file::Layout;
+use bw_file::{FileOrder, Layout};
 
 /// The options of `bw encode` that name marks of a CSV text, as they were given, and whether text
 /// may follow a closing quotation mark.
@@ -38,6 +38,7 @@ pub enum CommandArgs<'a> {
         csv: &'a str,
     },
     Load {
+        order: FileOrder,
         layout: Layout,
         schema: &'a str,
         csv: &'a str,
@@ -52,12 +53,14 @@ pub enum CommandArgs<'a> {
     Encode {
         marks: Marks<'a>,
         selected: Selected<'a>,
+        order: FileOrder,
         layout: Layout,
         csv: &'a str,
         out: &'a str,
         fields: &'a str,
     },
     Recode {
+        order: FileOrder,
         table: &'a str,
         schema: &'a str,
         numbers: &'a str,
@@ -69,6 +72,7 @@ pub enum CommandArgs<'a> {
         table: &'a str,
     },
     Info {
+        verify: bool,
         table: &'a str,
     },
     Dump {
@@ -127,7 +131,7 @@ impl<'a> CommandArgs<'a> {
             CommandArgs::Query { table, .. }
             | CommandArgs::Recode { table, .. }
             | CommandArgs::Session { table, .. }
-            | CommandArgs::Info { table }
+            | CommandArgs::Info { table, .. }
             | CommandArgs::Dump { table } => Some(table),
             _ => None,
         }
@@ -186,12 +190,14 @@ impl<'a> CommandArgs<'a> {
         match self {
             CommandArgs::Direct { .. } => "bw direct SCHEMA CSV SQL",
             CommandArgs::Infer { .. } => "bw infer [--table NAME] CSV",
-            CommandArgs::Load { .. } => "bw load [--layout planes|slices] SCHEMA CSV OUT",
+            CommandArgs::Load { .. } => {
+                "bw load [--columnar] [--layout planes|slices] SCHEMA CSV OUT"
+            },
             CommandArgs::Encode { .. } => "bw encode [OPTIONS] CSV OUT FIELDS",
-            CommandArgs::Recode { .. } => "bw recode IN SCHEMA NUMBERS OUT",
+            CommandArgs::Recode { .. } => "bw recode [--columnar] IN SCHEMA NUMBERS OUT",
             CommandArgs::Query { .. } => "bw query [--program FILE] [--stats] TABLE SQL",
             CommandArgs::Session { .. } => "bw session [--program FILE]... [--stats] TABLE",
-            CommandArgs::Info { .. } => "bw info TABLE",
+            CommandArgs::Info { .. } => "bw info [--verify] TABLE",
             CommandArgs::Dump { .. } => "bw dump TABLE",
             CommandArgs::Plan { .. } => "bw plan SCHEMA SQL",
             CommandArgs::Certify { .. } => "bw certify SCHEMA SQL PROGRAM",

@@ -1,10 +1,11 @@
 //! The commands, their arguments and their help: `bw direct SCHEMA CSV SQL`, `bw infer [--table
-//! NAME] CSV`, `bw load [--layout planes|slices] SCHEMA CSV OUT`, `bw encode [OPTIONS] CSV OUT
-//! FIELDS`, `bw recode IN SCHEMA NUMBERS OUT`, `bw query [--program FILE] [--stats] TABLE SQL`, `bw session [--program FILE]... [--stats] TABLE`, `bw plan SCHEMA SQL`,
-//! `bw certify SCHEMA SQL PROGRAM`, `bw check SCHEMA SQL FILE`, `bw info TABLE` and `bw dump TABLE`.
+//! NAME] CSV`, `bw load [--columnar] [--layout planes|slices] SCHEMA CSV OUT`, `bw encode [OPTIONS]
+//! CSV OUT FIELDS`, `bw recode [--columnar] IN SCHEMA NUMBERS OUT`, `bw query [--program FILE] [--stats] TABLE
+//! SQL`, `bw session [--program FILE]... [--stats] TABLE`, `bw plan SCHEMA SQL`, `bw certify SCHEMA SQL
+//! PROGRAM`, `bw check SCHEMA SQL FILE`, `bw info [--verify] TABLE` and `bw dump TABLE`.
 //! Each takes `--explain`, before the command or after it.
 use crate::args::{CommandArgs, Marks, Selected};
-use bw_file::Layout;
+use bw_file::{FileOrder, Layout};
 use clap::{Arg, ArgAction, ArgMatches, Command, Error};
 use std::alloc::{AllocError, Global};
 
@@ -21,6 +22,8 @@ enum ArgSpec {
     /// An option with a value, which may be repeated if values are appended: its name, its value's
     /// name, and its help.
     Valued(ArgAction, &'static str, &'static str, &'static str),
+    Columnar,
+    Verify,
     Layout,
     Lenient,
     Fill,
@@ -149,7 +152,7 @@ const COMMANDS: [CommandSpec; 12] = [
         name: "load",
         about: "Load a CSV file into a table file",
         example: "Example: bw load trips.schema trips.csv trips.bw",
-        takes: &[ArgSpec::Layout, SCHEMA, CSV, OUT],
+        takes: &[ArgSpec::Columnar, ArgSpec::Layout, SCHEMA, CSV, OUT],
     },
     CommandSpec {
         name: "encode",
@@ -164,6 +167,7 @@ const COMMANDS: [CommandSpec; 12] = [
             ArgSpec::Fill,
             COLUMNS,
             ROWS,
+            ArgSpec::Columnar,
             ArgSpec::Layout,
             ANY_CSV,
             OUT,
@@ -174,7 +178,7 @@ const COMMANDS: [CommandSpec; 12] = [
         name: "recode",
         about: "Write a table file with other numbers in place of its codes",
         example: "Example: bw recode codes.bw trips.schema trips.numbers trips.bw",
-        takes: &[IN, SCHEMA, NUMBERS, OUT],
+        takes: &[ArgSpec::Columnar, IN, SCHEMA, NUMBERS, OUT],
     },
     CommandSpec {
         name: "query",
@@ -210,7 +214,7 @@ const COMMANDS: [CommandSpec; 12] = [
         name: "info",
         about: "Print the schema of a table file, with its sizes as comments",
         example: "Example: bw info trips.bw",
-        takes: &[TABLE],
+        takes: &[ArgSpec::Verify, TABLE],
     },
     CommandSpec {
         name: "dump",
@@ -285,6 +289,12 @@ fn argument<'a>(alloc: Global, spec: ArgSpec) -> Arg<'a> {
             .action(ArgAction::Set)
             .value_parser(["planes", "slices"].as_slice())
             .help("How to store segments: as bit planes (the default) or byte slices"),
+        ArgSpec::Columnar => flag(alloc, "columnar").help(
+            "Write a file by columns, of which a query reads only the columns that it names",
+        ),
+        ArgSpec::Verify => flag(alloc, "verify").help(
+            "Read the whole file first, and say whether it is a table",
+        ),
         ArgSpec::Lenient => flag(alloc, "lenient").help(
             "Accept text after a closing quotation mark, and one that is open at the end",
         ),
@@ -342,7 +352,10 @@ fn table_args<'a>(name: &str, found: &ArgMatches<'a>) -> Option<CommandArgs<'a>>
             stats: found.get_flag("stats"),
             table,
         },
-        "info" => CommandArgs::Info { table },
+        "info" => CommandArgs::Info {
+            verify: found.get_flag("verify"),
+            table,
+        },
         _ => CommandArgs::Dump { table },
     })
 }
@@ -361,12 +374,14 @@ fn text_args<'a>(name: &str, found: &ArgMatches<'a>) -> Option<CommandArgs<'a>> 
     let schema = found.get_str("SCHEMA")?;
     Some(match name {
         "load" => CommandArgs::Load {
+            order: order_of(found),
             layout: layout_of(found),
             schema,
             csv: found.get_str("CSV")?,
             out: found.get_str("OUT")?,
         },
         "recode" => CommandArgs::Recode {
+            order: order_of(found),
             table: found.get_str("IN")?,
             schema,
             numbers: found.get_str("NUMBERS")?,
@@ -409,6 +424,7 @@ fn encode_args<'a>(found: &ArgMatches<'a>) -> Option<CommandArgs<'a>> {
             columns: found.get_str("columns"),
             is_filled: found.get_flag("fill"),
         },
+        order: order_of(found),
         layout: layout_of(found),
         csv: found.get_str("CSV")?,
         out: found.get_str("OUT")?,
@@ -421,6 +437,15 @@ fn layout_of(matches: &ArgMatches<'_>) -> Layout {
     match matches.get_str("layout") {
         Some("slices") => Layout::Slices,
         _ => Layout::Planes,
+    }
+}
+
+/// Returns the order of blocks that `--columnar` asks for; by rows, if it isn't given.
+fn order_of(matches: &ArgMatches<'_>) -> FileOrder {
+    if matches.get_flag("columnar") {
+        FileOrder::ByColumns
+    } else {
+        FileOrder::ByRows
     }
 }
 

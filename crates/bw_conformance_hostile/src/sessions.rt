@@ -67,16 +67,16 @@ fn run_session<S: Source>(
     requires sink { sink.old.calls.failures < 2 ^ 64 - 1 }
 {
     let mut bytes = FromRead::new(file);
-    let table = MemoryTable::read(alloc, &mut bytes)?;
+    let mut table = MemoryTable::read(alloc, &mut bytes)?;
     let mut files = Vec::new(alloc);
     files.push(Vec::from_slice(alloc, program)?)?;
-    run_over(alloc, &table, files, input, sink, counter)
+    run_over(alloc, &mut table, files, input, sink, counter)
 }
 
 /// Answers the statements of a source over a table, with these program files.
 fn run_over<S: Source>(
     alloc: Global,
-    table: &MemoryTable,
+    table: &mut MemoryTable,
     files: Vec<Vec<u8>>,
     input: &mut S,
     sink: &mut Taker,
@@ -282,7 +282,7 @@ fn a_session_keeps_the_table_that_it_read(rt: HostRuntime) -> Result<(), Fail> {
     for layout in LAYOUTS {
         let mut file = table_file(rt.alloc(), layout)?;
         let mut bytes = FromRead::new(file.as_slice());
-        let table = MemoryTable::read(rt.alloc(), &mut bytes)?;
+        let mut table = MemoryTable::read(rt.alloc(), &mut bytes)?;
         drop(bytes);
         for byte in file.iter_mut() {
             *byte = 255;
@@ -292,7 +292,7 @@ fn a_session_keeps_the_table_that_it_read(rt: HostRuntime) -> Result<(), Fail> {
         let mut counter = Counter::new();
         let outcome = run_over(
             rt.alloc(),
-            &table,
+            &mut table,
             Vec::new(rt.alloc()),
             &mut input,
             &mut sink,

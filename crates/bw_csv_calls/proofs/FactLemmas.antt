@@ -39,27 +39,27 @@ layout_short Planes = omega arith
 layout_short Slices = omega arith
 
 -- numbers that 64 bits hold
-pub record AreSmall (version : ℕ) (layout : Layout) (schema : Schema) (rows : ℕ) : Type 0 where
+pub record AreSmall (version rows size : ℕ) : Type 0 where
   pub told : version < 2 ^ 64
   pub within_limit : rows < 2 ^ 32
-  pub size : file_size version layout schema rows < 2 ^ 64
+  pub bounded : size < 2 ^ 64
 
-pub facts_are_comments : (version : ℕ) (layout : Layout) (schema : Schema) (rows : ℕ) → AreSmall version layout schema rows → AreComments (facts_text version layout schema rows)
-facts_are_comments version layout schema rows small =
+pub facts_are_comments : (version : ℕ) (layout : Layout) (rows size : ℕ) → AreSmall version rows size → AreComments (facts_text version layout rows size)
+facts_are_comments version layout rows size small =
     comment_more (codes "rows") (decimal rows) _ refl (plain_number rows (omega (arith, small.within_limit)))
     (comment_more (codes "segments") (decimal (segment_count rows)) _ refl (plain_number (segment_count rows) (omega (arith, small.within_limit)))
     (comment_more (codes "layout") (layout_word layout) _ refl (layout_plain layout)
     (comment_more (codes "version") (decimal version) _ refl (plain_number version small.told)
-    (comment_last (codes "bytes") (decimal (file_size version layout schema rows)) refl (plain_number (file_size version layout schema rows) small.size)))))
+    (comment_last (codes "bytes") (decimal size) refl (plain_number size small.bounded)))))
 
-pub facts_short : (version : ℕ) (layout : Layout) (schema : Schema) (rows : ℕ) → AreSmall version layout schema rows → length (facts_text version layout schema rows) ≤ 4096
+pub facts_short : (version : ℕ) (layout : Layout) (rows size : ℕ) → AreSmall version rows size → length (facts_text version layout rows size) ≤ 4096
 unfolding spaced_words
-facts_short version layout schema rows small =
+facts_short version layout rows size small =
     let a = natural_short rows (omega (arith, small.within_limit)) in
     let b = natural_short (segment_count rows) (omega (arith, small.within_limit)) in
     let c = layout_short layout in
     let d = natural_short version small.told in
-    let e = natural_short (file_size version layout schema rows) small.size in
+    let e = natural_short size small.bounded in
     simp length-append (omega arith)
 
 -- the text, put together line by line
@@ -71,14 +71,14 @@ joined s a b c d e one two three four five p q r t u =
     ∙ append_assoc s a (b ++ (c ++ (d ++ e)))
 
 -- so the text is what a header says, by its numbers
-pub told_by : (version : ℕ) (layout : Layout) (schema : Schema) (rows : ℕ) (s w one two three four five : List ℕ) (r g v z : ℕ)
+pub told_by : (version : ℕ) (layout : Layout) (schema : Schema) (rows size : ℕ) (s w one two three four five : List ℕ) (r g v z : ℕ)
     → one ≡ s ++ comment (codes "rows") (decimal r) → two ≡ one ++ comment (codes "segments") (decimal g)
     → three ≡ two ++ comment (codes "layout") w → four ≡ three ++ comment (codes "version") (decimal v)
     → five ≡ four ++ comment (codes "bytes") (decimal z) → s ≡ schema_text (schema_shape schema) → w ≡ layout_word layout
-    → r ≡ rows → g ≡ segment_count rows → v ≡ version → z ≡ file_size version layout schema rows
-    → five ≡ info_text version layout schema rows
+    → r ≡ rows → g ≡ segment_count rows → v ≡ version → z ≡ size
+    → five ≡ info_text version layout schema rows size
 unfolding info_text
-told_by version layout schema rows s w one two three four five r g v z p q t u x is word a b c d =
+told_by version layout schema rows size s w one two three four five r g v z p q t u x is word a b c d =
     joined s _ _ _ _ _ one two three four five p q t u x ∙ rw (is, word, a, b, c, d) refl
 
 -- the size of a file, by that of its header and of a segment
@@ -86,19 +86,17 @@ pub size_by : (version : ℕ) (layout : Layout) (schema : Schema) (rows head cou
     → size ≡ segment_size layout schema.columns.items → head + (count + 511) / 512 * size ≡ file_size version layout schema rows
 size_by version layout schema rows head count size p q r = rw (p, q, r) refl
 
--- numbers of a header are small
-pub sizes_small : (version : ℕ) (layout : Layout) (schema : Schema) (rows head count size : ℕ) → version < 2 ^ 8 → rows < 2 ^ 32 → head ≤ 20000 → size ≤ 266240 → count ≡ rows
-    → head + (count + 511) / 512 * size ≡ file_size version layout schema rows → AreSmall version layout schema rows
-sizes_small version layout schema rows head count size told few short small same is =
-    let product : (count + 511) / 512 * size ≤ (count + 511) / 512 * 266240 = mul-le-mul_left ((count + 511) / 512) small in
-    record { told = omega arith; within_limit = few; size = omega (arith, is, product) }
-
 -- the text spells the schema, whose text it begins with
-pub spelled_by : (version : ℕ) (layout : Layout) (schema : Schema) (rows : ℕ) (s text : List ℕ) → AreSmall version layout schema rows → s ≡ schema_text (schema_shape schema)
-    → ((comments : List ℕ) → AreComments comments → length comments ≤ 4096 → IsSchemaText (s ++ comments) (schema_shape schema)) → text ≡ info_text version layout schema rows
+pub spelled_by : (version : ℕ) (layout : Layout) (schema : Schema) (rows size : ℕ) (s text : List ℕ) → AreSmall version rows size → s ≡ schema_text (schema_shape schema)
+    → ((comments : List ℕ) → AreComments comments → length comments ≤ 4096 → IsSchemaText (s ++ comments) (schema_shape schema)) → text ≡ info_text version layout schema rows size
     → IsSchemaText text (schema_shape schema)
 unfolding info_text
-spelled_by version layout schema rows s text small is spelled e =
-    let facts = facts_text version layout schema rows in
+spelled_by version layout schema rows size s text small is spelled e =
+    let facts = facts_text version layout rows size in
     subst (λ (l : List ℕ). IsSchemaText l (schema_shape schema)) (ap (λ (l : List ℕ). l ++ facts) is ∙ sym e)
-    (spelled facts (facts_are_comments version layout schema rows small) (facts_short version layout schema rows small))
+    (spelled facts (facts_are_comments version layout rows size small) (facts_short version layout rows size small))
+
+-- the text by equal numbers
+pub info_same : (version other : ℕ) (L M : Layout) (S T : Schema) (rows count size bytes : ℕ) → version ≡ other → L ≡ M → S ≡ T → rows ≡ count → size ≡ bytes
+    → info_text version L S rows size ≡ info_text other M T count bytes
+info_same version other L M S T rows count size bytes a b c d e = rw (a, b, c, d, e) refl

@@ -19,7 +19,7 @@ use Rattle.bw_file.specs.TableReader.{ReturnsFirst, header_stated, layout_in, ro
 use Rattle.bw_file.specs.TableReader.{schema_in, version_in}
 use Rattle.bw_file.specs.TableReading.{IsTableFault, header, is_table_fault}
 use Rattle.bw_model.proofs.SameColumns.{columns_same}
-use Rattle.bw_csv_calls.specs.Info.{IsInfoResult, TellsFile, info_text, is_no_verdict}
+use Rattle.bw_csv_calls.specs.Info.{IsInfoResult, TellsFile, file_size, info_text, is_no_verdict}
 use Rattle.bw_csv_calls.proofs.SizeLemmas.{file_sized}
 
 abbrev Given : Type 0
@@ -55,7 +55,7 @@ memory_exit start now offset W fault reader read memory w =
 
 -- the text of the header was given
 pub text_exit : (start : State) (now : ℕ → State) (offset : ℕ) (W : Given → Type 0) (reader : TableReader) (text : List ℕ)
-    → GoesOn header start (give (header_stated (version_in reader) reader)) (now offset) → text ≡ info_text (version_in reader) (layout_in reader) (schema_in reader) (rows_stated reader)
+    → GoesOn header start (give (header_stated (version_in reader) reader)) (now offset) → text ≡ info_text (version_in reader) (layout_in reader) (schema_in reader) (rows_stated reader) (file_size (version_in reader) (layout_in reader) (schema_in reader) (rows_stated reader))
     → IsSchemaText text (schema_shape (schema_in reader)) → W (Ok text) → Ends start now W
 text_exit start now offset W reader text read is spelled w =
     let given : Given = Ok text in (
@@ -77,23 +77,24 @@ pub refused_memory : (old : SinkState) (fault : Fault) → fault ≡ no_memory �
 refused_memory old fault is = wrote_nothing (Unit {0}) none_aside old fault (Err fault) (ap is_write_fault is) (λ _. refl)
 
 -- the text of a schema's header is that of another's with the same name and columns
-text_same : (version : ℕ) (l m : Layout) (s t : Schema) (n o : ℕ) → l ≡ m → schema_shape s ≡ schema_shape t → n ≡ o → info_text version l s n ≡ info_text version m t o
+text_same : (version : ℕ) (l m : Layout) (s t : Schema) (n o size : ℕ) → l ≡ m → schema_shape s ≡ schema_shape t → n ≡ o → size ≡ file_size version m t o
+    → info_text version l s n (file_size version l s n) ≡ info_text version m t o size
 unfolding info_text
-text_same version l m s t n o p q r =
+text_same version l m s t n o size p q r long =
     let columns = columns_same s.columns.items t.columns.items (ap (λ (h : SchemaShape). h.columns) q) in
     let name : s.name ≡ t.name = ap (λ (h : SchemaShape). h.name) q in
-    rw (p, r, columns, name) refl
+    rw (p, r, columns, name, long) refl
 
 -- a table file's header was reported
 pub told_file : (reader : TableReader) (bytes : List ℕ) (layout : Layout) (schema : Schema) (rows : List (List Value)) (text : List ℕ) → IsFileBytes bytes layout schema rows
-    → ReturnsFirst reader [] layout schema rows → text ≡ info_text (version_in reader) (layout_in reader) (schema_in reader) (rows_stated reader)
+    → ReturnsFirst reader [] layout schema rows → text ≡ info_text (version_in reader) (layout_in reader) (schema_in reader) (rows_stated reader) (file_size (version_in reader) (layout_in reader) (schema_in reader) (rows_stated reader))
     → (old new : SinkState) (result : Result (Unit {0}) Fault) → GoesOut old new text result → OnOk result (TellsFile bytes layout schema rows old.taken new.taken)
 told_file reader bytes layout schema rows text file gave is old new (Ok x) goes =
     let version = version_in reader in
     record {
       version = version;
       size = file_sized bytes layout schema rows version file;
-      text = subst (Appends old.taken new.taken) (is ∙ text_same version (layout_in reader) layout (schema_in reader) schema (rows_stated reader) (length rows) gave.layout gave.schema gave.count) goes.0;
+      text = subst (Appends old.taken new.taken) (is ∙ text_same version (layout_in reader) layout (schema_in reader) schema (rows_stated reader) (length rows) (length bytes) gave.layout gave.schema gave.count (file_sized bytes layout schema rows version file)) goes.0;
     }
 told_file reader bytes layout schema rows text file gave is old new (Err fault) goes = tt
 

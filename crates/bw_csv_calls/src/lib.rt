@@ -1,7 +1,7 @@
 //! The calls of `bw` that read a CSV text or write a schema text, complete over sources and sinks
 //! of bytes.
 //!
-//! [`load`] writes the table file of a CSV's rows, and [`direct`] a query's result over them.
+//! [`load`] writes the table file of a CSV's rows, [`load_in_order`] its file by columns too, and [`direct`] a query's result over them.
 //! [`infer`] writes a schema text under which a CSV text has its rows without an error, and whose
 //! columns are as narrow as those rows. [`print_schema`] returns the text of a schema, one line for
 //! each column, which spells that schema, also if comment lines follow. [`info`] reads only a table
@@ -30,7 +30,7 @@ mod text;
 
 pub use direct_call::direct;
 pub use infer_call::infer;
-pub use info_call::{info, tables_have_their_size};
-pub use load_call::load;
+pub use info_call::{info, info_by_columns, tables_have_their_size};
+pub use load_call::{load, load_in_order};
 pub use print::print_schema;
 pub use schema::inferred_schemas_are_exact;

@@ -2,13 +2,15 @@
 use crate::explanation::Inputs;
 use crate::program_file::first_word;
 use crate::text::{Text, put};
-use bw_model::{Fault, Place};
+use bw_model::{Fault, Place, code};
 use bw_text::{Lines, Opcode, is_same_text};
 
 /// So many first bytes show what a file seems to be.
 const BEGINNING: usize = 4096;
 
 const TABLE: &str = "a table file";
+
+const COLUMNAR: &str = "a file by columns";
 
 const SCHEMA: &str = "a schema";
 
@@ -28,7 +30,7 @@ pub(crate) fn put_kind(text: &mut Text, fault: &Fault, inputs: &Inputs<'_>) -> b
         _ => return false,
     };
     let kind = kind_of(inputs.file.get(..BEGINNING).unwrap_or(inputs.file)).unwrap_or(wanted);
-    if kind == wanted {
+    if kind == wanted || kind == COLUMNAR && wanted == TABLE && fault.code != code::MAGIC {
         return false;
     }
     put!(text; "seems to be ", kind, ": expected ", wanted, ": ", inputs.usage, "\n");
@@ -40,6 +42,9 @@ pub(crate) fn put_kind(text: &mut Text, fault: &Fault, inputs: &Inputs<'_>) -> b
 fn kind_of(bytes: &[u8]) -> Option<&'static str> {
     if bytes.starts_with(b"BWCOLUMN") {
         return Some(TABLE);
+    }
+    if bytes.starts_with(b"BWBYCOLS") {
+        return Some(COLUMNAR);
     }
     let mut lines = Lines::new(bytes);
     for _ in 0..bytes.len() {

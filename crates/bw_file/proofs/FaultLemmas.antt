@@ -25,7 +25,7 @@ use Rattle.bw_file.specs.TableReading.{name, column, columns, front, header_in, 
 use Rattle.bw_file.specs.TableReading.{one_block, blocks, segment, IsTableFault}
 
 -- a number that is one of them wherever it is, and reading that rejects by them alone
-abbrev IsOwn : ℕ → Type 0
+abbrev pub IsOwn : ℕ → Type 0
 IsOwn code = (at : ℕ) → IsTableFault (at_byte code at)
 
 abbrev RefusesOwn : {A : Type 0} → Reading A → Type 0
@@ -141,7 +141,7 @@ lanes_own span count nulls codes =
     (first_own _ (group_size - count) (λ row. padding_own (slice_index_or nulls (count + row) false) (slice_index codes (count + row))))
     (first_own _ count (λ row. row_own span (slice_index_or nulls row false) (slice_index codes row)))
 
-block_own : (layout : Layout) (schema : List Column) (number rows : ℕ) (bytes : List ℕ) → IfSome (block_fault layout schema number rows bytes) IsOwn
+pub block_own : (layout : Layout) (schema : List Column) (number rows : ℕ) (bytes : List ℕ) → IfSome (block_fault layout schema number rows bytes) IsOwn
 unfolding faults.block_fault
 block_own layout schema number rows bytes = lanes_own _ rows _ _
 

@@ -6,6 +6,7 @@ pub mod FaultLemmas
 pub mod FileSpelling
 pub mod HeaderLemmas
 pub mod MemoryAnswers
+pub mod OrderLemmas
 pub mod NextLemmas
 pub mod HeaderInMemory
 pub mod ReaderLemmas

@@ -29,7 +29,7 @@ use Rattle.bw_file.proofs.SpelledBody.{groups_read}
 use Rattle.bw_model.proofs.SchemaLemmas.{shape_names-of, ordered, narrow}
 
 -- version 2 has room for every column
-room_in_2 : (columns : List Column) → list_all (λ (c : Column). are_bounds 2 c.lo c.hi) columns ≡ true
+pub room_in_2 : (columns : List Column) → list_all (λ (c : Column). are_bounds 2 c.lo c.hi) columns ≡ true
 unfolding are_bounds
 room_in_2 [] = refl
 room_in_2 (c ∷ columns) = rw (ordered c.lo c.hi c.ordered, narrow (c.hi -ℤ c.lo) (pos (2 ^ 63)) c.narrow) (room_in_2 columns)

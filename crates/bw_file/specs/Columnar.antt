@@ -9,9 +9,10 @@ use Rattle.bw_model.specs.Schema.{IsSchema}
 use Rattle.bw_model.specs.SchemaText.{schema_shape}
 use Rattle.bw_segment.specs.Packing.{block_bytes}
 use Rattle.bw_file.specs.declared.layout.Layout.{Layout}
-use Rattle.bw_file.specs.declared.order.FileOrder.TheVariants.{ByColumns}
+use Rattle.bw_file.specs.declared.order.FileOrder.{FileOrder}
+use Rattle.bw_file.specs.declared.order.FileOrder.TheVariants.{ByRows, ByColumns}
 use Rattle.bw_file.specs.Blocks.{block_size, bytes_before, form_of, segment_size}
-use Rattle.bw_file.specs.FileBytes.{AreRows, header_bytes}
+use Rattle.bw_file.specs.FileBytes.{AreRows, file_bytes, header_bytes}
 
 -- the blocks of a column, one for each group of 512 rows
 unfoldable pub column_blocks : Layout → List Column → List (List Value) → ℕ → List ℕ
@@ -24,6 +25,11 @@ columnar_bytes layout schema rows =
     header_bytes ByColumns 2 layout schema.name schema.columns.items (length rows)
     ++ flat_map (column_blocks layout schema.columns.items rows)
     (range_with_len 0 (length schema.columns.items))
+
+-- a table as a file, by rows or by columns
+abbrev pub bytes_in_order : FileOrder → Layout → Schema → List (List Value) → List ℕ
+bytes_in_order ByRows = file_bytes
+bytes_in_order ByColumns = columnar_bytes
 
 -- the bytes are the file by columns of these rows under this schema
 pub record IsColumnarFile (bytes : List ℕ) (layout : Layout) (schema : Schema)

@@ -8,7 +8,7 @@ ghost use Rattle.bw_model.specs.Fault.{no_memory};
 ghost use Rattle.bw_model.specs.Limits.{most_rows};
 ghost use Rattle.bw_model.specs.Row.{Value, values_of};
 ghost use Rattle.bw_file.specs.Blocks.{segment_bytes, IsPlaced};
-ghost use Rattle.bw_file.specs.Columnar.{columnar_bytes};
+ghost use Rattle.bw_file.specs.Columnar.{bytes_in_order, columnar_bytes};
 ghost use Rattle.bw_file.specs.FileBytes.{are_bounds, AreRows, file_bytes, front_bytes};
 ghost use Rattle.bw_file.specs.FileBytes.{header_bytes, name_bytes, column_bytes, bound_bytes};
 ghost use Rattle.bw_file.specs.FileBytes.{layout_byte, flag_byte, version_for};
@@ -197,6 +197,20 @@ impl Encoder {
             self.rows,
             &self.bytes,
         )
+    }
+
+    /// Returns the file of the rows that were added, by rows as [`Encoder::finish`] does or by
+    /// columns. Errors: 801 if memory is refused.
+    pub fn finish_in_order(self, order: FileOrder) -> Result<Vec<u8>, Fault>
+        ensures bytes { IfOk result
+            (λ bytes. (rows : List (List Value)) → Holds self rows
+            → bytes.items ≡ bytes_in_order order (encoder_layout self) (encoder_schema self) rows) }
+        ensures only_oom { IsOkUnless result no_memory }
+    {
+        match order {
+            FileOrder::ByRows => self.finish(),
+            FileOrder::ByColumns => self.finish_by_columns(),
+        }
     }
 }
 

@@ -4,6 +4,7 @@ pub mod BackupLemmas
 pub mod DumpSizes
 pub mod InMemoryLemmas
 pub mod InferredTextLemmas
+pub mod LoadByColumnsLemmas
 pub mod LoadThenQueryLemmas
 pub mod NamedColumnsLemmas
 pub mod KeptPlanLemmas

@@ -24,10 +24,10 @@ use Rattle.bw_model.specs.Truth.{all_of, any_of, between, compare_values, in_lis
 use Rattle.bw_model.specs.Truth.{negation, truth_from}
 use Rattle.bw_answer.specs.Answer.{field_of, heading_of, lists_rows, meaning, records_of, row_records}
 use Rattle.bw_answer.specs.Answer.{totals_record, value_text}
-use Rattle.bw_laws.specs.NamedColumns.{cond_names, item_names, names_step, operand_names, query_names}
+use Rattle.bw_query.specs.NamedColumns.{cond_names, item_names, names_step, operand_names, query_names}
 
 -- the first or the second is true, if one is
-or_first : (a b : Bool) → a ≡ true → (a || b) ≡ true
+pub or_first : (a b : Bool) → a ≡ true → (a || b) ≡ true
 or_first a b is = ap (λ x. x || b) is
 
 or_second : (a b : Bool) → b ≡ true → (a || b) ≡ true

@@ -1,5 +1,4 @@
 pub mod AsDirect
 pub mod Backup
 pub mod LoadThenQuery
-pub mod NamedColumns
 pub mod OneAnswer

@@ -3,7 +3,7 @@ ghost use Rattle.std.specs.Prelude.{◌≡◌, ℕ, List, map, true};
 ghost use Rattle.bw_model.specs.declared.query.Query.{Query};
 ghost use Rattle.bw_model.specs.Row.{Value, value_in};
 ghost use Rattle.bw_answer.specs.Answer.{meaning};
-ghost use Rattle.bw_laws.specs.NamedColumns.{query_names};
+ghost use Rattle.bw_query.specs.NamedColumns.{query_names};
 
 /// A theorem: if each row is changed, but has the same values in the columns that a query names, the
 /// query's meaning over the rows is the same. So a column that it doesn't name need not be read.

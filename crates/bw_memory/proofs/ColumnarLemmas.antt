@@ -21,8 +21,9 @@ use Rattle.bw_segment.proofs.ColumnBlockLemmas.{block_of_segment, has_put, lengt
 use Rattle.bw_segment.proofs.SoundLemmas.{length-rows_spelled}
 use Rattle.bw_file.specs.declared.layout.Layout.{Layout}
 use Rattle.bw_file.specs.Blocks.{IsSound, block_fault, block_size, form_of}
-use Rattle.bw_file.specs.TableReading.{IsValidAt, fault_place}
+use Rattle.bw_file.specs.TableReading.{IsTableFault, IsValidAt, fault_place}
 use Rattle.bw_file.proofs.EncoderLemmas.{groups_more as groups_with}
+use Rattle.bw_file.proofs.FaultLemmas.{IsOwn}
 use Rattle.bw_file.proofs.MemoryAnswers.{together_more}
 use Rattle.bw_file.proofs.SegmentLemmas.{is_packing}
 use Rattle.bw_memory.specs.declared.table.MemoryTable.{MemoryTable}
@@ -112,6 +113,9 @@ module _ (layout : Layout) (columns : List Column) (rows count : ℕ) (old : Lis
   pub replaced_cut : stored_groups layout columns rows count (set old col new) ≡ groups_of (together (stored_groups layout columns rows count (set old col new)))
   replaced_cut = groups_cut layout columns rows count (set old col new) kept.nonempty
 
+fault_is : (x y : Fault) → ◌≡◌ {A = Result (Unit {0}) Fault} (Err x) (Err y) → x ≡ y
+fault_is x y e = cc
+
 -- the result of validating a block tells its error
 module _ (at : ℕ) (layout : Layout) (columns : List Column) (rows col : ℕ) (block : List ℕ) where
   pub is_valid : (found : Option ℕ) → IsValidAt at layout columns rows col block found (Ok tt) → found ≡ None
@@ -122,9 +126,11 @@ module _ (at : ℕ) (layout : Layout) (columns : List Column) (rows col : ℕ) (
       → (code : ℕ) × (found ≡ Some code) × (fault ≡ at_byte code (at + fault_place layout columns rows col block code))
   has_error None fault valid = absurd cc
   has_error (Some code) fault valid = (code, refl, fault_is fault (at_byte code (at + fault_place layout columns rows col block code)) valid)
-    where
-      fault_is : (x y : Fault) → ◌≡◌ {A = Result (Unit {0}) Fault} (Err x) (Err y) → x ≡ y
-      fault_is x y e = cc
+
+  pub error_is_own : (found : Option ℕ) (fault : Fault) → IfSome found IsOwn → IsValidAt at layout columns rows col block found (Err fault) → IsTableFault fault
+  error_is_own None fault own valid = absurd cc
+  error_is_own (Some code) fault own valid =
+      subst IsTableFault (sym (fault_is fault (at_byte code (at + fault_place layout columns rows col block code)) valid)) (own (at + fault_place layout columns rows col block code))
 
 -- the block of a number, cut out of the others
 pub piece_cut : (blocks : List ℕ) (size number : ℕ) → slice_range blocks (number * size) (number * size + size) ≡ piece_of blocks size number

@@ -1,6 +1,10 @@
 pub mod ColumnarLemmas
+pub mod FileColumnsLemmas
 pub mod FillingLemmas
 pub mod StoredSegmentLemmas
 pub mod OpenLemmas
 pub mod ReadColumnLemmas
+pub mod ReadColumnsLemmas
+pub mod StoredRows
+pub mod WholeColumnar
 pub mod ReadLemmas

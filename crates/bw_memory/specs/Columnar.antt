@@ -1,13 +1,14 @@
 -- A table of a file by columns, of which some columns have been read.
-use Rattle.std.specs.Prelude.{◌≡◌, ◌≢◌, ◌⊎◌, ◌*◌, ◌<◌, ℕ, List, Option, IfSome, Ok, Err, true, drop}
-use Rattle.std.specs.Prelude.{length, take}
+use Rattle.std.specs.Prelude.{◌≡◌, ◌≢◌, ◌⊎◌, ◌*◌, ◌<◌, ◌≤◌, ℕ, Bool, List, [], Option, None, IfSome, Ok, Err, true, false, drop}
+use Rattle.std.specs.Prelude.{length, slice_index_or, take}
 use Rattle.bw_model.specs.declared.fault.Fault.{Fault}
 use Rattle.bw_model.specs.Fault.{at_byte, is_memory}
 use Rattle.bw_model.specs.FaultTable.{BYTES_AFTER_END, TRUNCATED}
 use Rattle.bw_model.specs.SchemaText.{schema_shape}
 use Rattle.bw_io.specs.Source.{is_input_fault}
 use Rattle.bw_file.specs.declared.order.FileOrder.TheVariants.{ByColumns}
-use Rattle.bw_file.specs.Blocks.{block_size}
+use Rattle.bw_segment.specs.Packing.{block_bytes}
+use Rattle.bw_file.specs.Blocks.{block_fault, block_size, form_of}
 use Rattle.bw_file.specs.Columnar.{block_place, columnar_length}
 use Rattle.bw_file.specs.Reading.{tail}
 use Rattle.bw_file.specs.TableReading.{HeaderShape, header_in}
@@ -16,6 +17,7 @@ use Rattle.bw_memory.specs.declared.table.MemoryTable.{MemoryTable}
 use Rattle.bw_memory.specs.Columns.{IsFirstFault, block_in}
 use Rattle.bw_memory.specs.Filling.{IsFillFault}
 use Rattle.bw_memory.specs.MemoryTable.{layout_of, schema_of, segments_in}
+use Rattle.bw_memory.specs.StoredSegments.{piece_of, rows_numbered}
 
 -- the table, in which a column that wasn't read has its minimum in each row
 abbrev pub table_in : ColumnarTable → MemoryTable
@@ -34,6 +36,11 @@ columnar_header version columnar =
       rows = columnar.table.rows;
       schema = schema_shape (schema_of columnar.table);
     }
+
+-- the number of bytes that the header demands
+abbrev pub columnar_size : ColumnarTable → ℕ
+columnar_size columnar = columnar_length (layout_of columnar.table)
+    (schema_of columnar.table).columns.items columnar.head (segments_in columnar.table)
 
 -- the bytes begin with this header
 abbrev pub StatesHeader : ColumnarTable → List ℕ → Type 0
@@ -79,6 +86,19 @@ pub record HasReadColumn (known : Option (List ℕ)) (old new : ColumnarTable) (
   pub blocks : (number : ℕ) → number < segments_in (table_in old)
       → IfSome known (HasBlock old column number (block_in (table_in new) number column))
 
+-- Of the first `count` columns, those of which `read` is true have the file's blocks, if its bytes
+-- are known. Each other column has the block of no rows in each segment: so each row has its minimum.
+pub record HasColumns (known : Option (List ℕ)) (columnar : ColumnarTable) (read : ℕ → Bool)
+    (count : ℕ) : Type 0 where
+  pub blocks : (column : ℕ) → column < count → read column ≡ true → (number : ℕ)
+      → number < segments_in (table_in columnar)
+      → IfSome known (HasBlock columnar column number (block_in (table_in columnar) number column))
+  pub blank : (column : ℕ) → column < length (schema_of (table_in columnar)).columns.items
+      → (count ≤ column) ⊎ (read column ≡ false) → (number : ℕ)
+      → number < segments_in (table_in columnar) → block_in (table_in columnar) number column
+      ≡ block_bytes (form_of (layout_of (table_in columnar)))
+      (schema_of (table_in columnar)).columns.items column []
+
 -- A column has an error: that of its first block that has one, each block being the file's if its
 -- bytes are known; the device ended too early, or a read failed; or out of memory.
 pub record IsBlockFault (known : Option (List ℕ)) (columnar : ColumnarTable) (column : ℕ)
@@ -94,6 +114,39 @@ IsColumnFault known columnar column fault =
     ⊎ IsFillFault known (place_in columnar column 0) (segments_in (table_in columnar)
     * block_size (layout_of (table_in columnar)) (schema_of (table_in columnar)).columns.items column)
     fault
+
+-- These blocks, back to back, are valid ones of a column in all segments, and those of the file, if
+-- its bytes are known.
+pub record AreFileBlocks (known : Option (List ℕ)) (columnar : ColumnarTable) (column : ℕ)
+    (blocks : List ℕ) : Type 0 where
+  pub long : length blocks ≡ segments_in (table_in columnar)
+      * block_size (layout_of (table_in columnar)) (schema_of (table_in columnar)).columns.items column
+  pub valid : (number : ℕ) → number < segments_in (table_in columnar)
+      → block_fault (layout_of (table_in columnar)) (schema_of (table_in columnar)).columns.items
+      column (rows_numbered (table_in columnar).rows number) (piece_of blocks
+      (block_size (layout_of (table_in columnar)) (schema_of (table_in columnar)).columns.items column)
+      number) ≡ None
+  pub are : (number : ℕ) → number < segments_in (table_in columnar)
+      → IfSome known (HasBlock columnar column number (piece_of blocks
+      (block_size (layout_of (table_in columnar)) (schema_of (table_in columnar)).columns.items column)
+      number))
+
+-- the number of columns
+abbrev pub column_count : ColumnarTable → ℕ
+column_count columnar = length (schema_of (table_in columnar)).columns.items
+
+-- a column is one of those that are wanted
+abbrev pub is_wanted : List Bool → ℕ → Bool
+is_wanted wanted column = slice_index_or wanted column false
+
+-- the columns before one of a number that are to be read were read, and it has an error
+pub record HasDamage (known : Option (List ℕ)) (read : ℕ → Bool) (columnar : ColumnarTable)
+    (fault : Fault) : Type 0 where
+  pub column : ℕ
+  pub within : column < column_count columnar
+  pub needed : read column ≡ true
+  pub before : HasColumns known columnar read column
+  pub is : IsColumnFault known columnar column fault
 
 -- a file by columns was opened
 abbrev pub IsOpened : Option (List ℕ) → ColumnarTable → Type 0
@@ -120,3 +173,8 @@ pub data HasOpenFault (bytes : List ℕ) : Fault → Type 0 where
 abbrev pub IsOpenFault : Option (List ℕ) → Fault → Type 0
 IsOpenFault known fault = (is_input_fault fault ≡ true)
     ⊎ IfSome known (λ bytes. HasOpenFault bytes fault)
+
+-- the error of a file by columns that couldn't be opened, or of a column that was to be read
+abbrev pub IsReadFault : Option (List ℕ) → (ℕ → Bool) → Fault → Type 0
+IsReadFault known read fault = IsOpenFault known fault
+    ⊎ ((columnar : ColumnarTable) × IsOpened known columnar × HasDamage known read columnar fault)

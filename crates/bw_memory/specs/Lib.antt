@@ -1,6 +1,9 @@
 pub mod Columnar
+pub mod ColumnStore
+pub mod FileColumns
 pub mod Columns
 pub mod Filling
 pub mod StoredSegments
 pub mod MemoryTable
 pub mod ReadSegments
+pub mod NamedRows

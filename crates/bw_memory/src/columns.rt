@@ -4,6 +4,7 @@ ghost use Rattle.std.specs.Prelude.{IfErr, IfOk, OnOk, IsOkUnless, length};
 ghost use Rattle.bw_model.specs.Fault.{no_memory};
 ghost use Rattle.bw_model.specs.Limits.{most_rows};
 ghost use Rattle.bw_file.specs.Blocks.{block_fault, block_size};
+ghost use Rattle.bw_file.specs.TableReading.{IsTableFault};
 ghost use Rattle.bw_memory.specs.Columns.{IsBlank, IsFirstFault, block_in};
 ghost use Rattle.bw_memory.specs.MemoryTable.{layout_of, schema_of, segments_in};
 ghost use Rattle.bw_memory.specs.StoredSegments.{piece_of, rows_numbered};
@@ -60,6 +61,7 @@ impl MemoryTable {
             ≡ None) }
         ensures fault { IfErr result (IsFirstFault self.now col (piece_of blocks.now
             (block_size (layout_of self.now) (schema_of self.now).columns.items col)) at) }
+        ensures table { IfErr result IsTableFault }
     {
         let size = block_size(self.layout, &self.placement, col);
         for number in 0..self.segments {

@@ -23,13 +23,20 @@
 //! ```
 #![tactic(auto)]
 
+mod column_store;
 mod columnar;
 mod columns;
+mod file_columns;
 mod filling;
+mod laws;
 mod layouts;
 mod opening;
 mod reading;
 mod table;
 
+pub use column_store::ColumnStore;
 pub use columnar::ColumnarTable;
+pub use file_columns::FileColumns;
+pub use laws::{columns_are_those_of_the_file, stored_rows_are_those_of_the_file};
+pub use opening::is_by_columns;
 pub use table::MemoryTable;

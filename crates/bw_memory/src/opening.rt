@@ -1,10 +1,16 @@
 //! Opens a file by columns, and reads its columns.
 ghost use Rattle.std.specs.Prelude.{◌≡◌, ◌⊎◌, ◌+◌, ◌*◌, ◌/◌, ◌-◌, ◌^◌, ◌<◌, ◌≤◌, ◌≢◌, ℕ, length, take};
-ghost use Rattle.std.specs.Prelude.{true, IfErr, IfOk, IfSome, OnOk, OnErr};
+ghost use Rattle.std.specs.Prelude.{true, false, IfErr, IfOk, IfSome, OnOk, OnErr};
 ghost use Rattle.bw_io.specs.Source.{failed_by, is_input_fault};
+ghost use Rattle.bw_file.specs.declared.order.FileOrder.TheVariants.{ByColumns};
 ghost use Rattle.bw_file.specs.Blocks.{block_size};
-ghost use Rattle.bw_memory.specs.Columnar.{HasReadColumn, IsColumnFault, IsOpened, IsOpenFault};
-ghost use Rattle.bw_memory.specs.Columnar.{place_in, table_in};
+ghost use Rattle.bw_file.specs.FileBytes.{magic};
+ghost use Rattle.bw_file.specs.TableReading.{IsTableFault};
+ghost use Rattle.bw_memory.specs.Columnar.{AreFileBlocks, HasColumns, HasDamage, HasReadColumn};
+ghost use Rattle.bw_memory.specs.Columnar.{IsColumnFault};
+ghost use Rattle.bw_memory.specs.Columnar.{IsOpened, IsOpenFault, SameHeader, column_count};
+ghost use Rattle.bw_memory.specs.Columnar.{IsReadFault, columnar_size};
+ghost use Rattle.bw_memory.specs.Columnar.{is_wanted, place_in, table_in};
 ghost use Rattle.bw_memory.specs.Columns.{IsBlank};
 ghost use Rattle.bw_memory.specs.Filling.{IsFillFault};
 ghost use Rattle.bw_memory.specs.MemoryTable.{layout_of, schema_of, segments_in};
@@ -16,6 +22,18 @@ use bw_file::{FileOrder, ParsedHeader, block_size, parse_header, segment_size};
 use bw_io::{Failed, RandomAccess};
 use bw_model::{Fault, code};
 use std::alloc::Global;
+
+/// Returns whether a file begins as one by columns does. A read that fails, or a file that is
+/// shorter, is no sign of one. The device's count of failures must be less than 2^64 - 1.
+#[tactic(auto, unfolding(bw_file::specs::FileBytes::magic))]
+pub fn is_by_columns<D: RandomAccess>(device: &mut D) -> bool
+    requires { (D.state device.old).failures < 2 ^ 64 - 1 }
+    ensures { result ≡ true
+        → IfSome (D.state device.old).known (λ bytes. take 8 bytes ≡ magic ByColumns) }
+{
+    let mut first = [0u8; 8];
+    fill_at(device, 0, &mut first).is_ok() && first == *b"BWBYCOLS"
+}
 
 /// No header has more bytes.
 const LONGEST_HEADER: u64 = 20_000;
@@ -31,6 +49,7 @@ impl ColumnarTable {
         ensures opened { IfOk result (IsOpened (D.state device.old).known) }
         ensures blank { IfOk result (λ columnar. IsBlank (table_in columnar)) }
         ensures refused { IfErr result (IsOpenFault (D.state device.old).known) }
+        ensures fault { IfErr result IsTableFault }
         ensures same { (D.state device.new).known ≡ (D.state device.old).known }
         ensures count { (D.state device.new).failures
             ≡ (D.state device.old).failures + failed_by result }
@@ -59,11 +78,46 @@ impl ColumnarTable {
         Ok(ColumnarTable { table, head })
     }
 
+    /// Opens a file by columns, and reads all columns.
+    ///
+    /// Errors: those of [`ColumnarTable::open`], then those of [`ColumnarTable::read_columns`]; 701
+    /// also if the file has changed since it was opened. The device's count of failures must be less
+    /// than 2^64 - 1.
+    pub fn read<D: RandomAccess>(alloc: Global, device: &mut D) -> Result<Self, Fault>
+        requires { (D.state device.old).failures < 2 ^ 64 - 1 }
+        ensures opened { IfOk result (IsOpened (D.state device.old).known) }
+        ensures read { IfOk result (λ columnar. HasColumns (D.state device.old).known columnar
+            (λ _. true) (column_count columnar)) }
+        ensures refused { IfErr result (λ fault. is_input_fault fault ≡ false
+            → IsReadFault (D.state device.old).known (λ _. true) fault) }
+        ensures fault { IfErr result IsTableFault }
+        ensures confirmed { IfOk result (λ _. (D.state device.new).confirmed ≡ true) }
+        ensures count { (D.state device.new).failures
+            ≡ (D.state device.old).failures + failed_by result }
+    {
+        let mut columnar = ColumnarTable::open(alloc, device)?;
+        for col in 0..columnar.table.placement.schema.columns.len() {
+            columnar.read_column(alloc, device, col)?;
+        }
+        match device.confirm() {
+            Ok(()) => Ok(columnar),
+            Err(Failed) => Err(Fault::new(code::READ_FAILED)),
+        }
+    }
+
     /// Returns the table, in which a column that wasn't read has its minimum in each row.
     pub fn table(&self) -> &MemoryTable
         ensures { result.now ≡ table_in self.now }
     {
         &self.table
+    }
+
+    /// Returns the number of bytes of the file.
+    pub fn size(&self) -> u64
+        ensures { result ≡ columnar_size self.now }
+    {
+        let size = segment_size(self.table.layout, &self.table.placement) as u64;
+        self.head + self.table.segments as u64 * size
     }
 
     /// Reads a column into memory, and validates its blocks.
@@ -82,20 +136,73 @@ impl ColumnarTable {
         requires column { col < length (schema_of (table_in self.old)).columns.items }
         ensures read { OnOk result (HasReadColumn (D.state device.old).known self.old self.new col) }
         ensures refused { IfErr result (IsColumnFault (D.state device.old).known self.old col) }
+        ensures fault { IfErr result IsTableFault }
         ensures untouched { OnErr result (self.new ≡ self.old) }
         ensures same { (D.state device.new).known ≡ (D.state device.old).known }
         ensures count { (D.state device.new).failures
             ≡ (D.state device.old).failures + failed_by result }
     {
-        let layout = self.table.layout;
-        let size = block_size(layout, &self.table.placement, col);
+        let blocks = self.column_blocks(alloc, device, col)?;
+        self.table.replace_column(alloc, col, blocks);
+        Ok(())
+    }
+
+    /// Returns the blocks of a column in all segments, back to back, and validated. Errors: those of
+    /// [`ColumnarTable::read_column`].
+    pub(crate) fn column_blocks<D: RandomAccess>(
+        &self,
+        alloc: Global,
+        device: &mut D,
+        col: usize,
+    ) -> Result<Vec<u8>, Fault>
+        requires counter_fits { (D.state device.old).failures < 2 ^ 64 - 1 }
+        requires column { col < length (schema_of (table_in self.now)).columns.items }
+        ensures blocks { IfOk result (λ blocks.
+            AreFileBlocks (D.state device.old).known self.now col blocks.items) }
+        ensures refused { IfErr result (IsColumnFault (D.state device.old).known self.now col) }
+        ensures fault { IfErr result IsTableFault }
+        ensures same { (D.state device.new).known ≡ (D.state device.old).known }
+        ensures count { (D.state device.new).failures
+            ≡ (D.state device.old).failures + failed_by result }
+    {
+        let size = block_size(self.table.layout, &self.table.placement, col);
         let count = self.table.segments as usize * size;
         let at = self.place_of(col);
         let mut blocks = Vec::with_capacity(alloc, count)?;
         blocks.resize(count, 0)?;
         fill_at(device, at, &mut blocks)?;
         self.table.validate_column(col, &blocks, at)?;
-        self.table.replace_column(alloc, col, blocks);
+        Ok(blocks)
+    }
+
+    /// Reads the columns of which `wanted` is true, in order. No column may have been read before.
+    ///
+    /// Errors: those of [`ColumnarTable::read_column`], of the first column that has one. The columns
+    /// before it have then been read.
+    pub fn read_columns<D: RandomAccess>(
+        &mut self,
+        alloc: Global,
+        device: &mut D,
+        wanted: &[bool],
+    ) -> Result<(), Fault>
+        requires counter_fits { (D.state device.old).failures < 2 ^ 64 - 1 }
+        requires blank { IsBlank (table_in self.old) }
+        requires each { length wanted.now ≡ column_count self.old }
+        ensures read { OnOk result (HasColumns (D.state device.old).known self.new
+            (is_wanted wanted.now) (column_count self.new)) }
+        ensures header { SameHeader self.old self.new }
+        ensures refused { IfErr result
+            (HasDamage (D.state device.old).known (is_wanted wanted.now) self.new) }
+        ensures fault { IfErr result IsTableFault }
+        ensures same { (D.state device.new).known ≡ (D.state device.old).known }
+        ensures count { (D.state device.new).failures
+            ≡ (D.state device.old).failures + failed_by result }
+    {
+        for col in 0..wanted.len() {
+            if wanted[col] {
+                self.read_column(alloc, device, col)?;
+            }
+        }
         Ok(())
     }
 

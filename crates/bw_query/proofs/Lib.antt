@@ -1,8 +1,11 @@
 pub mod CacheLemmas
+pub mod ColumnarExits
 pub mod GroupLemmas
 pub mod ItemLemmas
 pub mod MemoryExits
+pub mod NamingLemmas
 pub mod ScanLemmas
+pub mod StoreLemmas
 pub mod TableExits
 pub mod TableLemmas
 mod ScannedLemmas

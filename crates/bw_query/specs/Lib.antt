@@ -8,3 +8,6 @@ pub mod Segments
 pub mod Consumers
 pub mod SegmentLemmas
 pub mod Trial
+pub mod NamedColumns
+pub mod ColumnarAnswer
+pub mod StoreAnswer

@@ -24,6 +24,11 @@ IsFor columns cond (Program certified) = (certified.schema.columns.items ≡ col
     × (tree_of certified.condition ≡ tree_of cond)
 IsFor columns cond Rows = Unit {0}
 
+-- the program of a scan: none for the fallback
+abbrev pub program_of : Scan → Option ProgramShape
+program_of (Program certified) = Some certified.program
+program_of Rows = None
+
 -- With a program file its program is used. Else it's some program that with some certificate is
 -- valid, or none.
 abbrev pub IsChosen : Option (List ℕ) → List Column → Cond → Scan → Type 0

@@ -163,7 +163,7 @@ pub fn dump<S: Source, K: Sink>(alloc: Global, table: &mut S, sink: &mut K) -> R
 
 /// Returns the query for all rows and all columns.
 #[tactic(auto, using(bw_model::proofs::CondLemmas::truths))]
-fn every_row(alloc: Global, schema: &Schema) -> Result<Query, Fault>
+pub(crate) fn every_row(alloc: Global, schema: &Schema) -> Result<Query, Fault>
     ensures every { IfOk result (IsEveryRow schema.now) }
     ensures items { IfOk result (λ query. IsTrue (list_all (item_within
         (vec_len schema.now.columns)) query.items.items)) }

@@ -13,7 +13,9 @@ use Rattle.bw_model.specs.Row.{Value}
 use Rattle.bw_model.specs.SchemaText.{schema_of, schema_shape, IsSchemaText}
 use Rattle.bw_io.specs.Source.{source_state}
 use Rattle.bw_file.specs.declared.layout.Layout.{Layout}
-use Rattle.bw_file.specs.FileBytes.{IsFileBytes, file_bytes}
+use Rattle.bw_file.specs.declared.order.FileOrder.{FileOrder}
+use Rattle.bw_file.specs.Columnar.{bytes_in_order}
+use Rattle.bw_file.specs.FileBytes.{IsFileBytes}
 use Rattle.bw_file.specs.Reading.{State, Fails, GoesOn, give, state_at}
 use Rattle.bw_file.specs.TableReader.{layout_in, schema_in}
 use Rattle.bw_file.specs.TableReading.{HeaderShape, IsReadAs, found_as, header}
@@ -67,16 +69,17 @@ pub record HasHeader (table : List ℕ) (schema : Schema) : Type 0 where
   pub read : GoesOn header (start_of table) (give stated) after
   pub shape : stated.schema ≡ schema_shape schema
 
--- The bytes are the table file of the new schema whose rows are the table's, replaced, in the
--- table's layout.
-pub record IsRecodedUnder (new : Schema) (table numbers bytes : List ℕ) : Type 0 where
+-- The bytes are the file of the new schema, by rows or by columns, whose rows are the table's,
+-- replaced, in the table's layout.
+pub record IsRecodedUnder (order : FileOrder) (new : Schema) (table numbers bytes : List ℕ) : Type 0 where
   pub layout : Layout
   pub old : Schema
   pub rows : List (List Value)
   pub file : IsFileBytes table layout old rows
   pub replacements : List Replacement
   pub spelled : replacements_of old.columns.items new.columns.items numbers ≡ Ok replacements
-  pub is : bytes ≡ file_bytes layout new (map (replaced_row old.columns.items replacements) rows)
+  pub is : bytes
+      ≡ bytes_in_order order layout new (map (replaced_row old.columns.items replacements) rows)
 
 -- the table's header has this error
 pub record HasHeaderFault (table : List ℕ) (fault : Fault) : Type 0 where
@@ -106,20 +109,21 @@ IsRefusedUnder new table numbers fault =
 
 -- The recoded table under the schema that a text spells; or the text's first error, or else the
 -- first one under that schema.
-abbrev pub IsRecoding : List ℕ → List ℕ → List ℕ → Result (List ℕ) Fault → Type 0
-IsRecoding table schema numbers (Ok bytes) =
-    (new : Schema) × IsSchemaText schema (schema_shape new) × IsRecodedUnder new table numbers bytes
-IsRecoding table schema numbers (Err fault) =
+abbrev pub IsRecoding : FileOrder → List ℕ → List ℕ → List ℕ → Result (List ℕ) Fault → Type 0
+IsRecoding order table schema numbers (Ok bytes) =
+    (new : Schema) × IsSchemaText schema (schema_shape new)
+    × IsRecodedUnder order new table numbers bytes
+IsRecoding order table schema numbers (Err fault) =
     (schema_of schema ≡ Err fault)
     ⊎ ((new : Schema) × IsSchemaText schema (schema_shape new)
     × IsRefusedUnder new table numbers fault)
 
 -- The table is read as the layout and the schema that a reader states, with some rows, and the
--- bytes are the table file of these rows, replaced, under another schema.
-pub record IsEncoded (table : List ℕ) (reader : TableReader) (schema : Schema)
+-- bytes are the file of these rows, replaced, under another schema.
+pub record IsEncoded (order : FileOrder) (table : List ℕ) (reader : TableReader) (schema : Schema)
     (replacements : List Replacement) (bytes : List ℕ) : Type 0 where
   pub rows : List (List Value)
   pub read : IsReadAs table
       (Ok (found_as (layout_in reader) (schema_shape (schema_in reader)) rows))
-  pub is : bytes ≡ file_bytes (layout_in reader) schema
+  pub is : bytes ≡ bytes_in_order order (layout_in reader) schema
       (map (replaced_row (schema_in reader).columns.items replacements) rows)

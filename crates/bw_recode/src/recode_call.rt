@@ -12,13 +12,14 @@ ghost use Rattle.bw_file.specs.TableReading.{IsReadAs};
 
 use crate::apply::add_segment;
 use crate::numbers::{Replacement, read_replacements};
-use bw_file::{Encoder, Memory, TableReader};
+use bw_file::{Encoder, FileOrder, Memory, TableReader};
 use bw_model::{Fault, Schema};
 use std::alloc::Global;
 
-/// Returns the table file, under the schema of a schema text and in the layout of a table file,
-/// whose rows are those of the table file with each value replaced as a text of numbers says. In
-/// memory are the lists of numbers, the file's bytes, and one segment.
+/// Returns the file, by rows or by columns, under the schema of a schema text and in the layout of a
+/// table file, whose rows are those of the table file with each value replaced as a text of numbers
+/// says. In memory are the lists of numbers, the file's bytes, and one segment; by columns also the
+/// blocks of all segments.
 ///
 /// Errors, in this order: the schema text's (106, 101 to 105); the table's header (301 to 305, 310);
 /// the text of numbers, at the number of a line: 203, if a column or a list of its codes lacks lines,
@@ -26,26 +27,33 @@ use std::alloc::Global;
 /// list has a null that may not be; 205, if a number is outside the new column's bounds, or numbers
 /// of a column that is kept may be; 204, if a line is no number; and then the table's segments (305
 /// to 309). 801 at any time, if memory is refused.
-pub fn recode(alloc: Global, table: &[u8], schema: &[u8], numbers: &[u8]) -> Result<Vec<u8>, Fault>
+pub fn recode(
+    alloc: Global,
+    order: FileOrder,
+    table: &[u8],
+    schema: &[u8],
+    numbers: &[u8],
+) -> Result<Vec<u8>, Fault>
     requires { length numbers.now < 2 ^ 63 }
     ensures recoded { IfOk result (λ file.
-        IsRecoding table.now schema.now numbers.now (Ok file.items)) }
+        IsRecoding order table.now schema.now numbers.now (Ok file.items)) }
     ensures refused { IfErr result (λ fault. is_memory fault ≡ false
-        → IsRecoding table.now schema.now numbers.now (Err fault)) }
+        → IsRecoding order table.now schema.now numbers.now (Err fault)) }
 {
     let schema = Schema::parse(alloc, schema)?;
-    recode_under(alloc, table, &schema, numbers)
+    recode_under(alloc, order, table, &schema, numbers)
 }
 
 /// Returns the same under a schema. Errors: those of the table and of the text of numbers.
 fn recode_under(
     alloc: Global,
+    order: FileOrder,
     table: &[u8],
     schema: &Schema,
     numbers: &[u8],
 ) -> Result<Vec<u8>, Fault>
     requires { length numbers.now < 2 ^ 63 }
-    ensures recoded { IfOk result (λ file. IsRecodedUnder schema.now table.now numbers.now
+    ensures recoded { IfOk result (λ file. IsRecodedUnder order schema.now table.now numbers.now
         file.items) }
     ensures refused { IfErr result (λ fault. is_memory fault ≡ false
         → IsRefusedUnder schema.now table.now numbers.now fault) }
@@ -58,13 +66,21 @@ fn recode_under(
         &schema.columns,
         numbers,
     )?;
-    encode_rest(alloc, &mut source, &mut reader, schema, &replacements)
+    encode_rest(
+        alloc,
+        order,
+        &mut source,
+        &mut reader,
+        schema,
+        &replacements,
+    )
 }
 
-/// Returns the table file of the rows of a reader that has returned none, with their values
+/// Returns the file of the rows of a reader that has returned none, with their values
 /// replaced. Errors: those of the table's segments.
 fn encode_rest(
     alloc: Global,
+    order: FileOrder,
     source: &mut Memory<'_>,
     reader: &mut TableReader,
     schema: &Schema,
@@ -76,7 +92,7 @@ fn encode_rest(
     requires fresh { rows_given reader.old ≡ 0 }
     ensures file { IfOk result (λ file. (table : List ℕ) → ReadProgress (start_of table)
         (state_at (memory_state source.old) (bytes_taken reader.old)) reader.old []
-        → IsEncoded table reader.old schema.now (replacements_in replacements.now) file.items) }
+        → IsEncoded order table reader.old schema.now (replacements_in replacements.now) file.items) }
     ensures refused { IfErr result (λ fault. is_memory fault ≡ false → (table : List ℕ)
         → ReadProgress (start_of table)
         (state_at (memory_state source.old) (bytes_taken reader.old)) reader.old []
@@ -86,5 +102,5 @@ fn encode_rest(
     while let Some(segment) = reader.next_segment(source)? {
         add_segment(alloc, &segment, replacements, &mut encoder)?;
     }
-    encoder.finish()
+    encoder.finish_in_order(order)
 }

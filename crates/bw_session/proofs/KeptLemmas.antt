@@ -1,6 +1,6 @@
 -- What is kept of a statement that is too long is answered as the whole of it is.
 use Rattle.std.proofs.Common.{◌≡◌, refl, sym, subst, ℕ, ◌<◌, Bool, true, false, List, [], ◌∷◌}
-use Rattle.std.proofs.Common.{Option, Some, length, take, arith, length-take, take_all}
+use Rattle.std.proofs.Common.{Option, Some, length, take, arith, length-take, take_all, inl, inr}
 use Rattle.std.proofs.lemmas.Bool.{leb-true, leb-false}
 use Rattle.std.specs.Prelude.{leb}
 use Rattle.bw_model.specs.declared.fault.Fault.{Fault}
@@ -30,15 +30,18 @@ long_output : (table : SessionTable) (kept sql : List ℕ) (fault : Option Fault
     → longest_statement < length kept → longest_statement < length sql
     → IsOutput table kept fault out → IsOutput table sql fault out
 long_output table kept sql _ _ kept_long long (nothing asks) = absurd (long_asks kept kept_long asks)
-long_output table kept sql _ _ kept_long long (answer query spelled) =
+long_output table kept sql _ _ kept_long long (answer query rows spelled have) =
     absurd (omega (arith, spelled.short, kept_long))
 long_output table kept sql _ _ kept_long long (refusal {fault} asks spelled) =
-    refusal (long_asks sql long) (λ other. long_fault table.schema kept sql fault kept_long long (spelled other))
+    refusal (long_asks sql long) (λ other. elim (spelled other) [
+      | inl own ↦ inl (long_fault table.schema kept sql fault kept_long long own)
+      | inr damaged ↦ absurd (omega (arith, damaged.spelled.short, kept_long))
+    ])
 
 long_told : (table : SessionTable) (sql : List ℕ) (fault : Option Fault) (notes : List Note)
     → longest_statement < length (take most_stored sql) → IsTold table (take most_stored sql) fault notes → IsTold table sql fault notes
 long_told table sql _ _ kept_long (told_nothing asks) = absurd (long_asks (take most_stored sql) kept_long asks)
-long_told table sql _ _ kept_long (told_answer query how spelled serves) =
+long_told table sql _ _ kept_long (told_answer query rows how spelled have serves) =
     absurd (omega (arith, spelled.short, kept_long))
 long_told table sql _ _ kept_long (told_refusal fault) =
     subst (λ kept. IsTold table sql (Some fault) (rejected kept fault ∷ [])) (sym (stored_once sql)) (told_refusal fault)

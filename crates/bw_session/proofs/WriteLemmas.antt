@@ -6,20 +6,20 @@ use Rattle.std.proofs.lemmas.Bool.{both_ways}
 use Rattle.std.proofs.lemmas.List.{take-append-le}
 use Rattle.std.proofs.Math.Seq.{take-append-add}
 use Rattle.std.proofs.KnownBytes.{Appends-nil, Appends-trans}
-use Rattle.std.specs.Prelude.{◌↔◌, IsTrue}
+use Rattle.std.specs.Prelude.{◌↔◌, ◌⊎◌, IsTrue}
 use Rattle.std.specs.Io.KnownBytes.{Appends}
 use Rattle.bw_model.specs.declared.fault.Fault.{Fault}
 use Rattle.bw_model.specs.declared.schema.Schema.{Schema}
 use Rattle.bw_io.specs.Sink.{SinkState, TookPart, WriteOutcome, beginning, everything}
 use Rattle.bw_io.specs.Sink.{is_write_fault, none_aside, nothing}
 use Rattle.bw_report.specs.declared.served.Served.{Served}
-use Rattle.bw_query.specs.MemoryAnswer.{AnswersRows, IsMemoryAnswer, RowsText}
-use Rattle.bw_query.specs.ProgramChoice.{IsServedAmong}
+use Rattle.bw_query.specs.StoreAnswer.{AnswersStore, IsStoreAnswer, StoreText}
+use Rattle.bw_query.specs.StoreAnswer.{HasColumnError as HasQueryError}
 use Rattle.bw_query.specs.TableAnswer.{by_statement}
 use Rattle.bw_sql.specs.Statement.{IsReadAs}
 use Rattle.bw_session.specs.Note.{Hears, Note, answered, rejected}
 use Rattle.bw_session.specs.Reading.{most_stored}
-use Rattle.bw_session.specs.Session.{AnswersOne, AsksNothing, EndsLine, IsOutput, IsTold}
+use Rattle.bw_session.specs.Session.{AnswersOne, AsksNothing, EndsLine, HasColumnError, IsOutput, IsTold}
 use Rattle.bw_session.specs.Session.{SessionTable, TookRest, answer, nothing as none, refusal}
 use Rattle.bw_session.specs.Session.{told_answer, told_nothing, told_refusal}
 use Rattle.bw_session.proofs.NoteLemmas.{Hears-nil}
@@ -55,6 +55,13 @@ statement_fault : (schema : Schema) (sql : List ℕ) (fault : Fault) → by_stat
 statement_fault schema sql fault (inl refused) = refused
 statement_fault schema sql fault (inr program) = absurd program.refused
 
+-- or that of a column that it names
+rejection : (table : SessionTable) (sql : List ℕ) (fault : Fault)
+    → by_statement None sql table.schema (Err fault) ⊎ HasQueryError (by_statement None sql) table.schema table.source fault
+    → IsReadAs table.schema sql (Err fault) ⊎ HasColumnError table sql fault
+rejection table sql fault (inl refused) = inl (statement_fault table.schema sql fault refused)
+rejection table sql fault (inr damaged) = inr (record { query = damaged.query; spelled = damaged.asked.0; fails = damaged.fails })
+
 module _ (table : SessionTable) (sql : List ℕ) where
   -- an LF follows what was written, after the listener was told
   line_ends : (text : List ℕ) (notes : List Note) (old mid new : SinkState) (before after : Option (List Note))
@@ -87,27 +94,26 @@ module _ (table : SessionTable) (sql : List ℕ) where
   -- an LF follows an answer
   pub answered_line : (given : Result (List ℕ) Fault) (old mid new : SinkState) (before after : Option (List Note)) (served : Served)
       (result : Result (Option Fault) Fault) → WriteOutcome none_aside old mid given (Ok served)
-      → (found : AnswersRows (by_statement None sql) table.schema table.rows old.taken mid.taken)
-      → IsServedAmong table.files table.schema found.query table.rows served
+      → AnswersStore (by_statement None sql) table.schema table.source table.files old.taken mid.taken served
       → Hears before after (answered served ∷ []) → EndsLine mid new None result
       → AnswersOne table sql old new before after result
-  answered_line given old mid new before after served result (everything text gave went count) found serves hears line =
-      line_ends _ _ old mid new before after None result (answer found.query found.asked.0)
-      (told_answer found.query served found.asked.0 serves) found.text count hears line
+  answered_line given old mid new before after served result (everything text gave went count) did hears line =
+      line_ends _ _ old mid new before after None result (answer did.found.query did.rows did.found.asked.0 did.have)
+      (told_answer did.found.query did.rows served did.found.asked.0 did.have did.serves) did.found.text count hears line
 
   -- a write of an answer failed
   pub answer_failed : (old new : SinkState) (told : Option (List Note)) (given : Result (List ℕ) Fault) (fault : Fault)
-      → IsMemoryAnswer (by_statement None sql) table.schema table.rows given
+      → IsStoreAnswer (by_statement None sql) table.schema table.source given
       → WriteOutcome {T = Served} none_aside old new given (Err fault) → is_write_fault fault ≡ true
       → AnswersOne table sql old new told told (Err fault)
   answer_failed old new told given _ is (beginning text gave part count) write =
-      let found : RowsText (by_statement None sql) table.schema table.rows text =
-      subst (IsMemoryAnswer (by_statement None sql) table.schema table.rows) gave is in (
+      let stored : StoreText (by_statement None sql) table.schema table.source text =
+      subst (IsStoreAnswer (by_statement None sql) table.schema table.source) gave is in (
         refl,
         record {
           out = text ++ 10 ∷ [];
           fault = None;
-          is = subst (λ line. IsOutput table sql None (line ++ 10 ∷ [])) (sym found.is) (answer found.query found.asked.0);
+          is = subst (λ line. IsOutput table sql None (line ++ 10 ∷ [])) (sym stored.found.is) (answer stored.found.query stored.rows stored.found.asked.0 stored.have);
           appends = part_before old.taken new.taken text (10 ∷ []) part;
           hears = inl (Hears-nil told);
         },
@@ -119,7 +125,7 @@ module _ (table : SessionTable) (sql : List ℕ) where
   -- an LF follows a rejection
   pub refused : (given : Result (List ℕ) Fault) (old mid new : SinkState) (before after : Option (List Note)) (fault : Fault)
       (result : Result (Option Fault) Fault) → (AsksNothing sql → ⊥) → length sql ≤ 65537
-      → IsMemoryAnswer (by_statement None sql) table.schema table.rows given
+      → IsStoreAnswer (by_statement None sql) table.schema table.source given
       → WriteOutcome {T = Served} none_aside old mid given (Err fault) → is_write_fault fault ≡ false
       → Hears before after (rejected sql fault ∷ []) → EndsLine mid new (Some fault) result
       → AnswersOne table sql old new before after result
@@ -127,8 +133,8 @@ module _ (table : SessionTable) (sql : List ℕ) where
       absurd (cc other)
   refused given old mid new before after fault result asks short is (nothing _ gave same count) other hears line =
       line_ends [] _ old mid new before after (Some fault) result
-      (refusal asks (λ no_memory. statement_fault table.schema sql fault
-      (subst (IsMemoryAnswer (by_statement None sql) table.schema table.rows) (gave refl) is no_memory)))
+      (refusal asks (λ no_memory. rejection table sql fault
+      (subst (IsStoreAnswer (by_statement None sql) table.schema table.source) (gave refl) is no_memory)))
       (told_refusal fault)
       (subst (λ known. Appends old.taken known []) (sym same) (Appends-nil old.taken)) count
       (subst (λ kept. Hears before after (rejected kept fault ∷ [])) (sym (take_all most_stored sql short)) hears) line

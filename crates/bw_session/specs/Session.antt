@@ -9,7 +9,9 @@ use Rattle.bw_model.specs.Column.{names_of}
 use Rattle.bw_model.specs.FaultTable.{WRITE_FAILED}
 use Rattle.bw_model.specs.Fault.{is_memory, nowhere}
 use Rattle.bw_model.specs.Row.{Value}
+use Rattle.bw_memory.specs.ColumnStore.{ColumnSource, HasFirstFault, HasRows}
 use Rattle.bw_report.specs.declared.served.Served.{Served}
+use Rattle.bw_query.specs.NamedColumns.{is_named_by}
 use Rattle.bw_query.specs.ProgramChoice.{IsServedAmong}
 use Rattle.bw_sql.specs.Cut.{HasNoToken}
 use Rattle.bw_sql.specs.Limits.{longest_statement}
@@ -21,14 +23,15 @@ use Rattle.bw_session.specs.Note.{Hears, Note, answered, rejected}
 use Rattle.bw_session.specs.Reading.{most_stored}
 use Rattle.bw_session.specs.Statements.{IsBegun, IsOpen, IsWhole}
 
--- what statements are asked of: a table's schema and rows, and the program files that may serve
+-- what statements are asked of: a table's schema, where its columns come from, and the program files
+-- that may serve
 pub record SessionTable : Type 0 where
   pub files : List (List ℕ)
   pub schema : Schema
-  pub rows : List (List Value)
+  pub source : ColumnSource
 
-abbrev pub session_table : List (List ℕ) → Schema → List (List Value) → SessionTable
-session_table files schema rows = record { files = files; schema = schema; rows = rows }
+abbrev pub session_table : List (List ℕ) → Schema → ColumnSource → SessionTable
+session_table files schema source = record { files = files; schema = schema; source = source }
 
 -- what a session's sink consumed and its listener was told, each if it states it
 pub record Outputs : Type 0 where
@@ -42,16 +45,25 @@ outputs taken told = record { taken = taken; told = told }
 abbrev pub AsksNothing : List ℕ → Type 0
 AsksNothing sql = (length sql ≤ longest_statement) × HasNoToken sql
 
+-- the statement spells a query, and a column that it names has this error
+pub record HasColumnError (table : SessionTable) (sql : List ℕ) (fault : Fault) : Type 0 where
+  pub query : Query
+  pub spelled : IsReadAs table.schema sql (Ok query)
+  pub fails : HasFirstFault table.source (is_named_by query) fault
+
 -- What a session writes for a statement, and the statement's error if it is rejected. An empty
--- statement writes nothing. One that spells a query writes the CSV text of its meaning and an LF.
--- One that is rejected writes an LF. Out of memory may reject any statement.
+-- statement writes nothing. One that spells a query writes the CSV text of its meaning over rows
+-- that have the columns which it names, and an LF. One that is rejected, or names a column that has
+-- an error, writes an LF. Out of memory may reject any statement.
 pub data IsOutput (table : SessionTable) (sql : List ℕ) : Option Fault → List ℕ → Type 0 where
   nothing : AsksNothing sql → IsOutput table sql None []
-  answer : (query : Query) → IsReadAs table.schema sql (Ok query)
+  answer : (query : Query) (rows : List (List Value)) → IsReadAs table.schema sql (Ok query)
+      → HasRows table.source (is_named_by query) rows
       → IsOutput table sql None
-      (csv_text (meaning (names_of table.schema.columns.items) query table.rows) ++ 10 ∷ [])
+      (csv_text (meaning (names_of table.schema.columns.items) query rows) ++ 10 ∷ [])
   refusal : {fault : Fault} → (AsksNothing sql → ⊥)
-      → (is_memory fault ≡ false → IsReadAs table.schema sql (Err fault))
+      → (is_memory fault ≡ false
+      → IsReadAs table.schema sql (Err fault) ⊎ HasColumnError table sql fault)
       → IsOutput table sql (Some fault) (10 ∷ [])
 
 -- What a session tells its listener of a statement with this error, if there is one: nothing of an
@@ -60,8 +72,9 @@ pub data IsOutput (table : SessionTable) (sql : List ℕ) : Option Fault → Lis
 -- bytes of one that is rejected, and its error.
 pub data IsTold (table : SessionTable) (sql : List ℕ) : Option Fault → List Note → Type 0 where
   told_nothing : AsksNothing sql → IsTold table sql None []
-  told_answer : (query : Query) (served : Served) → IsReadAs table.schema sql (Ok query)
-      → IsServedAmong table.files table.schema query table.rows served
+  told_answer : (query : Query) (rows : List (List Value)) (served : Served)
+      → IsReadAs table.schema sql (Ok query) → HasRows table.source (is_named_by query) rows
+      → IsServedAmong table.files table.schema query rows served
       → IsTold table sql None (answered served ∷ [])
   told_refusal : (fault : Fault) → IsTold table sql (Some fault)
       (rejected (take most_stored sql) fault ∷ [])

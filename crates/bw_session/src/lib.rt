@@ -1,4 +1,4 @@
-//! Sessions: the statements of a source, run one after another over a table in memory.
+//! Sessions: the statements of a source, run one after another over a table.
 #![tactic(auto)]
 
 mod listener;

@@ -2,7 +2,7 @@
 ghost use Rattle.std.specs.Prelude.{◌≡◌, ◌-◌, ◌^◌, ◌<◌, ◌≤◌, ◌↔◌, IsTrue, [], length};
 ghost use Rattle.bw_model.specs.Fault.{is_memory};
 ghost use Rattle.bw_io.specs.Sink.{is_write_fault};
-ghost use Rattle.bw_memory.specs.MemoryTable.{rows_of, schema_of};
+ghost use Rattle.bw_memory.specs.MemoryTable.{schema_of};
 ghost use Rattle.bw_query.specs.ProgramCache.{Serves, files_of};
 ghost use Rattle.bw_session.specs.Session.{Answers, AnswersOne, AsksNothing, EndsLine, first_of};
 ghost use Rattle.bw_session.specs.Note.{Hears};
@@ -11,38 +11,39 @@ ghost use Rattle.bw_session.specs.Session.{session_table};
 use crate::listener::Listener;
 use crate::reading::{MAX_LEN, next_statement};
 use bw_io::{Sink, Source, write_whole};
-use bw_memory::MemoryTable;
+use bw_memory::ColumnStore;
 use bw_model::{Fault, code};
 use bw_query::{ProgramCache, answer_with_programs};
 use bw_sql::has_no_token;
 use std::alloc::Global;
 
-/// Runs the statements of a source over a table in memory, one after another. A statement ends with
-/// a `;` outside a comment, with an empty line, or with the source. For each the sink takes the CSV
+/// Runs the statements of a source over a table, one after another. A column is read when a statement
+/// first names it, unless it is in memory. A statement ends with a `;` outside a comment, with an
+/// empty line, or with the source. For each the sink takes the CSV
 /// text of its meaning over the rows and an LF; an LF alone if it is rejected; nothing if it has
 /// only spaces, tabs, line ends and comments. Each result is written before the next statement is
 /// read. Returns the error of the first rejected statement, if there is one; if memory was refused
 /// to any statement, it returns that error (801).
 ///
-/// Each statement is run by [`answer_with_programs`], whose errors (401 to 408, 801) don't end the
-/// session. The listener is told of each statement that isn't empty: before its LF is written, how
+/// Each statement is run by [`answer_with_programs`], whose errors (401 to 408, 306 to 308, 305, 701
+/// and 801) don't end the session. The listener is told of each statement that isn't empty: before its LF is written, how
 /// it was served, or its text (the first 65,537 bytes) and its error. The session ends early by a
 /// failed read (701) or write (702), and if there is no memory for a statement's text (801). The
 /// programs must serve the table's columns, and the counts of errors of the source and of the sink
 /// must be able to rise.
-pub fn answer_statements<S: Source, K: Sink, L: Listener>(
+pub fn answer_statements<C: ColumnStore, S: Source, K: Sink, L: Listener>(
     alloc: Global,
-    table: &MemoryTable,
+    store: &mut C,
     programs: &mut ProgramCache,
     input: &mut S,
     sink: &mut K,
     listener: &mut L,
 ) -> Result<Option<Fault>, Fault>
-    requires serves { Serves (schema_of table.now).columns.items programs.old }
+    requires serves { Serves (schema_of (C.table store.old)).columns.items programs.old }
     requires input { (S.state input.old).failures < 2 ^ 64 - 1 }
     requires sink { (K.state sink.old).failures < 2 ^ 64 - 1 }
-    ensures { Answers (session_table (files_of programs.old) (schema_of table.now)
-        (rows_of table.now)) (S.state input.old) (S.state input.new) (K.state sink.old)
+    ensures { Answers (session_table (files_of programs.old) (schema_of (C.table store.old))
+        (C.source store.old)) (S.state input.old) (S.state input.new) (K.state sink.old)
         (K.state sink.new) (L.told listener.old) (L.told listener.new) result }
 {
     let mut statement = Vec::new(alloc);
@@ -53,7 +54,7 @@ pub fn answer_statements<S: Source, K: Sink, L: Listener>(
             Ok(more) => more,
             Err(fault) => return Err(fault),
         };
-        match answer_one(alloc, table, programs, &statement, sink, listener) {
+        match answer_one(alloc, store, programs, &statement, sink, listener) {
             Ok(fault) => first = first_of(first, fault),
             Err(fault) => return Err(fault),
         }
@@ -75,27 +76,29 @@ fn wait_if_unread<S: Source, L: Listener>(input: &S, listener: &mut L)
 
 /// Runs a statement, and writes its result and an LF. Returns its error if it is rejected. Errors:
 /// 702.
-fn answer_one<K: Sink, L: Listener>(
+fn answer_one<C: ColumnStore, K: Sink, L: Listener>(
     alloc: Global,
-    table: &MemoryTable,
+    store: &mut C,
     programs: &mut ProgramCache,
     sql: &[u8],
     sink: &mut K,
     listener: &mut L,
 ) -> Result<Option<Fault>, Fault>
-    requires serves { Serves (schema_of table.now).columns.items programs.old }
+    requires serves { Serves (schema_of (C.table store.old)).columns.items programs.old }
     requires sink { (K.state sink.old).failures < 2 ^ 64 - 1 }
     requires stored { length sql.now ≤ 65537 }
-    ensures answers { AnswersOne (session_table (files_of programs.old) (schema_of table.now)
-        (rows_of table.now)) sql.now (K.state sink.old) (K.state sink.new) (L.told listener.old)
+    ensures answers { AnswersOne (session_table (files_of programs.old)
+        (schema_of (C.table store.old)) (C.source store.old)) sql.now (K.state sink.old) (K.state sink.new) (L.told listener.old)
         (L.told listener.new) result }
-    ensures serves { Serves (schema_of table.now).columns.items programs.new }
+    ensures serves { Serves (schema_of (C.table store.new)).columns.items programs.new }
     ensures files { files_of programs.new ≡ files_of programs.old }
+    ensures source { C.source store.new ≡ C.source store.old }
+    ensures schema { schema_of (C.table store.new) ≡ schema_of (C.table store.old) }
 {
     if asks_nothing(sql) {
         return Ok(None);
     }
-    match answer_with_programs(alloc, table, sql, programs, sink) {
+    match answer_with_programs(alloc, store, sql, programs, sink) {
         Ok(served) => {
             listener.note_answer(&served);
             end_line(sink, None)

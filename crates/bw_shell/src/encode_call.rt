@@ -1,41 +1,41 @@
-//! A CSV text of any fields, encoded as a table file.
+//! A CSV text of any fields, encoded as a table file or a file by columns.
 ghost use Rattle.std.specs.Prelude.{◌-◌, ◌^◌, ◌<◌, ◌+◌};
 ghost use Rattle.bw_model.specs.Limits.{longest_csv};
 ghost use Rattle.bw_io.specs.Source.{Arrival, ReadOutcome, SourceEffect};
 ghost use Rattle.bw_encode.specs.Encode.{EncodeOutcome};
-ghost use Rattle.bw_file.specs.FileBytes.{file_bytes};
+ghost use Rattle.bw_file.specs.Columnar.{bytes_in_order};
 
 use bw_encode::{CodedTable, Dialect, Selection, TableMaker, encode_text};
-use bw_file::{Encoder, Layout};
+use bw_file::{Encoder, FileOrder, Layout};
 use bw_io::{Sink, Source};
 use bw_model::Fault;
 use std::alloc::Global;
 use std::hash::RandomState;
 
-/// Makes the table file of coded columns, in a layout.
+/// The form of the file that is made of coded columns.
 #[derive(Clone, Copy)]
-struct FileMaker {
-    layout: Layout,
+pub struct FileForm {
+    pub order: FileOrder,
+    pub layout: Layout,
 }
 
-impl TableMaker for FileMaker {
-    ghost use Rattle.bw_file.specs.FileBytes.{file_bytes};
+impl TableMaker for FileForm {
+    ghost use Rattle.bw_file.specs.Columnar.{bytes_in_order};
 
-    ghost bytes_of = { λ maker. file_bytes maker.layout };
+    ghost bytes_of = { λ form. bytes_in_order form.order form.layout };
 
     fn make(&self, alloc: Global, table: &CodedTable<'_>) -> Result<Vec<u8>, Fault> {
         let schema = table.schema(alloc)?;
         let mut encoder = Encoder::new(alloc, self.layout, &schema)?;
         table.deliver(alloc, &mut encoder)?;
-        encoder.finish()
+        encoder.finish_in_order(self.order)
     }
 }
 
 /// Writes two texts of the selected rows and fields of a CSV text, which may be any bytes: what the
-/// codes of its columns stand for, and then the table file of its numbers and codes, in a layout.
-/// With a limit of rows, the first ends with the number of bytes before the first row that wasn't
-/// read. Nothing is written before all
-/// else has succeeded. Fields are found by hashes that depend on the hasher's keys. Each device's
+/// codes of its columns stand for, and then the file of its numbers and codes, by rows or by columns, in
+/// a layout. With a limit of rows, the first ends with the number of bytes before the first row that
+/// wasn't read. Nothing is written before all else has succeeded. Fields are found by hashes that depend on the hasher's keys. Each device's
 /// count of failures must be less than 2^64 - 1.
 ///
 /// Errors, in this order: the CSV's source (701) and length (208); its first wrong record (201,
@@ -46,7 +46,7 @@ pub fn encode<C: Source, F: Sink, K: Sink>(
     hasher: RandomState,
     dialect: Dialect,
     selection: Selection<'_>,
-    layout: Layout,
+    form: FileForm,
     csv_source: &mut C,
     fields_sink: &mut F,
     sink: &mut K,
@@ -56,7 +56,7 @@ pub fn encode<C: Source, F: Sink, K: Sink>(
     requires sink { (K.state sink.old).failures < 2 ^ 64 - 1 }
     ensures encoded { (csv : Arrival)
         × ReadOutcome longest_csv (C.state csv_source.old) (C.state csv_source.new) csv
-        × EncodeOutcome dialect selection.entry (file_bytes layout) csv
+        × EncodeOutcome dialect selection.entry (bytes_in_order form.order form.layout) csv
         (F.state fields_sink.old) (F.state fields_sink.new) (K.state sink.old) (K.state sink.new) result }
     ensures csv { SourceEffect (longest_csv + 1) (C.state csv_source.old)
         (C.state csv_source.new) result }
@@ -66,7 +66,7 @@ pub fn encode<C: Source, F: Sink, K: Sink>(
         hasher,
         dialect,
         selection,
-        &FileMaker { layout },
+        &form,
         csv_source,
         fields_sink,
         sink,

@@ -10,8 +10,8 @@ use Rattle.bw_csv_calls.proofs.SizeLemmas.{header_taken}
 use Rattle.bw_csv_calls.proofs.info_call.info.Goals as goal
 use Rattle.bw_model.proofs.ErrLemmas.{err_passed_on}
 
-pub info_text-requires-clause-head : goal.info_text-requires-clause-head
-info_text-requires-clause-head g c = header_taken _ _ c.in_ok-reader.reader refl c.in_ok-reader.ensures.stated
+pub header_text-requires-clause-head : goal.header_text-requires-clause-head
+header_text-requires-clause-head g c = header_taken _ _ c.in_ok-reader.reader refl c.in_ok-reader.ensures.stated
 
 pub returns-in_err-reader-clause-info : goal.returns-in_err-reader-clause-info
 returns-in_err-reader-clause-info g c =

@@ -11,7 +11,8 @@ use Rattle.bw_file.specs.Encoder.{encoder_schema}
 use Rattle.bw_file.specs.TableReader.{schema_in}
 use Rattle.bw_file.proofs.MemoryAnswers.{together_more}
 use Rattle.bw_file.proofs.NextLemmas.{segment_of, end_of, refusal_of}
-use Rattle.bw_file.proofs.TableLemmas.{bytes_alike, fault_seen, whole_seen}
+use Rattle.bw_file.proofs.OrderLemmas.{same_in_order}
+use Rattle.bw_file.proofs.TableLemmas.{fault_seen, whole_seen}
 use Rattle.bw_recode.specs.Recode.{replaced_row, replacements_in}
 use Rattle.bw_recode.proofs.recode_call.encode_rest.Goals as goal
 
@@ -89,9 +90,9 @@ returns-clause-file c =
     let ended = end_of (rw c.in_default.is at c.in_ok-segment.ensures) c.loop-encoder.invariant.goes_on in
     let layout = c.loop-encoder.invariant.layout ∙ c.loop-encoder.invariant.same_layout in
     let holds = rw c.loop-encoder.invariant.same_schema at c.loop-encoder.invariant.holds in
-    IfOk-weaker c.finish.result _ _ (λ bytes text. λ table began. record {
+    IfOk-weaker c.finish_in_order.result _ _ (λ bytes text. λ table began. record {
       rows = together groups;
       read = rw (c.loop-encoder.invariant.same_layout, c.loop-encoder.invariant.same_schema) at (whole_seen table _ _ _ (ended.whole _ groups (c.loop-encoder.invariant.read table began)));
       is = text (map (replaced_row columns (replacements_in c.args.replacements.now)) (together groups)) holds
-          ∙ bytes_alike _ _ (encoder_schema c.loop-encoder.encoder) c.args.schema.now _ layout c.loop-encoder.invariant.name c.loop-encoder.invariant.columns;
-    }) c.finish.ensures.bytes
+          ∙ same_in_order c.args.order _ _ (encoder_schema c.loop-encoder.encoder) c.args.schema.now _ layout c.loop-encoder.invariant.name c.loop-encoder.invariant.columns;
+    }) c.finish_in_order.ensures.bytes

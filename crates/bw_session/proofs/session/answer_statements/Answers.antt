@@ -7,7 +7,7 @@ use Rattle.bw_session.proofs.SessionLemmas.{stored_length, waits}
 use Rattle.bw_session.proofs.session.answer_statements.Goals as goal
 
 pub loop-init : goal.loop-init
-loop-init g c = record { so_far = begins _ _ _; reads = refl; writes = refl; serves = c.requires.serves; files = refl }
+loop-init g c = record { so_far = begins _ _ _; reads = refl; writes = refl; serves = c.requires.serves; files = refl; source = refl; schema = refl }
 
 pub answer_one-requires-clause-stored : goal.answer_one-requires-clause-stored
 answer_one-requires-clause-stored g c =
@@ -24,7 +24,7 @@ returns-in-Err g c =
 
 pub returns-in-Err-answer_one : goal.returns-in-Err-answer_one
 returns-in-Err-answer_one g c =
-    let failed = rw c.loop.invariant.files at c.in-Err-answer_one.ensures.answers in
+    let failed = rw (c.loop.invariant.files, c.loop.invariant.schema, c.loop.invariant.source) at c.in-Err-answer_one.ensures.answers in
     let so_far = waits _ _ _ _ _ _ _ _ c.loop.invariant.so_far c.wait_if_unread.ensures in (
       stops_writing _ _ _ _ _ _ _ _ _ _ _ c.in-Err-answer_one.fault so_far c.in-Ok.ensures.statement
           failed.1 c.deref.ensures.value failed.0,
@@ -34,7 +34,7 @@ returns-in-Err-answer_one g c =
 
 pub returns-then-not-more : goal.returns-then-not-more
 returns-then-not-more g c =
-    let wrote = rw c.loop.invariant.files at c.in-Ok-answer_one.ensures.answers in
+    let wrote = rw (c.loop.invariant.files, c.loop.invariant.schema, c.loop.invariant.source) at c.in-Ok-answer_one.ensures.answers in
     let so_far = waits _ _ _ _ _ _ _ _ c.loop.invariant.so_far c.wait_if_unread.ensures in (
       rw c.first_of-first.ensures (ends _ _ _ _ _ _ _ _ _ _ so_far (rw c.if-not-more.true at c.in-Ok.ensures.statement)
           (rw c.deref.ensures.value at wrote.0)),
@@ -44,7 +44,7 @@ returns-then-not-more g c =
 
 pub loop-preserved : goal.loop-preserved
 loop-preserved g c =
-    let wrote = rw c.loop.invariant.files at c.in-Ok-answer_one.ensures.answers in
+    let wrote = rw (c.loop.invariant.files, c.loop.invariant.schema, c.loop.invariant.source) at c.in-Ok-answer_one.ensures.answers in
     let so_far = waits _ _ _ _ _ _ _ _ c.loop.invariant.so_far c.wait_if_unread.ensures in
     record {
       so_far = rw c.first_of-first.ensures (goes_on _ _ _ _ _ _ _ _ _ _ so_far
@@ -53,6 +53,8 @@ loop-preserved g c =
       writes = omega (arith, wrote.1, c.loop.invariant.writes);
       serves = c.in-Ok-answer_one.ensures.serves;
       files = c.in-Ok-answer_one.ensures.files ∙ c.loop.invariant.files;
+      source = c.in-Ok-answer_one.ensures.source ∙ c.loop.invariant.source;
+      schema = c.in-Ok-answer_one.ensures.schema ∙ c.loop.invariant.schema;
     }
 
 pub returns : goal.returns

@@ -1,36 +1,10 @@
 -- The blocks are those of the file.
-use Rattle.std.proofs.Common.{◌≡◌, ◌∙◌, ap, subst, ◌*◌, inl, length, refl, arith}
-use Rattle.std.proofs.lemmas.List.{with_items_is}
-use Rattle.bw_model.proofs.ErrLemmas.{err_passed_on}
-use Rattle.bw_file.specs.Blocks.{block_size}
-use Rattle.bw_memory.specs.Columns.{IsFirstFault}
-use Rattle.bw_memory.specs.StoredSegments.{piece_of}
-use Rattle.bw_memory.proofs.ReadColumnLemmas.{column_known, known_block}
+use Rattle.std.proofs.Common.{refl}
+use Rattle.bw_memory.proofs.ReadColumnLemmas.{replaced}
 use Rattle.bw_memory.proofs.columnar.ColumnarTable.read_column.Goals as goal
-
-pub returns-in_err-validate_column-clause-refused : goal.returns-in_err-validate_column-clause-refused
-returns-in_err-validate_column-clause-refused g c =
-    let table = c.args.self.now.table in
-    let size = block_size table.layout table.placement.value.schema.columns.items c.args.col in
-    let is : c.block_size-size.result ≡ size = rw c.deref.ensures at c.block_size-size.ensures.size in
-    let items = with_items_is c.resize.new.self c.fill_at.new.buffer (omega (arith, c.fill_at.auto.buffer, c.deref_mut.ensures.len)) in
-    let long : length c.fill_at.new.buffer ≡ table.segments * size = omega (arith, c.fill_at.auto.buffer, c.deref_mut.ensures.len, c.in_ok-resize.ensures.len, ap (λ n. table.segments * n) is) in
-    rw (err_passed_on _ c.from_residual-in_err-validate_column.ensures.1) (inl (record {
-      blocks = piece_of c.deref-2.result.now size;
-      are = λ number there. column_known _ c.args.self.now c.args.col c.fill_at.new.buffer c.deref-2.result.now c.place_of-at.result number c.place_of-at.ensures.place (c.deref-2.ensures.value ∙ items) long there c.in_ok-fill_at.ensures.filled;
-      first = subst (λ n. IsFirstFault table c.args.col (piece_of c.deref-2.result.now size) n c.in_err-validate_column.field-0.0) c.place_of-at.ensures.place c.in_err-validate_column.ensures.fault;
-    }))
 
 pub returns-clause-read : goal.returns-clause-read
 returns-clause-read g c =
-    let table = c.args.self.now.table in
-    let size = block_size table.layout table.placement.value.schema.columns.items c.args.col in
-    let is : c.block_size-size.result ≡ size = rw c.deref.ensures at c.block_size-size.ensures.size in
-    let items = with_items_is c.resize.new.self c.fill_at.new.buffer (omega (arith, c.fill_at.auto.buffer, c.deref_mut.ensures.len)) in
-    let long : length c.fill_at.new.buffer ≡ table.segments * size = omega (arith, c.fill_at.auto.buffer, c.deref_mut.ensures.len, c.in_ok-resize.ensures.len, ap (λ n. table.segments * n) is) in
-    record {
-      same = record { layout = c.replace_column.ensures.layout; schema = c.replace_column.ensures.schema; rows = c.replace_column.ensures.rows; segments = c.replace_column.ensures.segments; head = refl };
-      others = c.replace_column.ensures.others;
-      blocks = λ number there. known_block _ c.args.self.now c.args.col number _ _ (c.replace_column.ensures.column number there)
-          (column_known _ c.args.self.now c.args.col c.fill_at.new.buffer _ c.place_of-at.result number c.place_of-at.ensures.place items long there c.in_ok-fill_at.ensures.filled);
-    }
+    let blocks = c.in_ok-blocks.ensures.blocks in
+    let put = c.replace_column.ensures in
+    replaced _ c.args.self.now _ c.args.col c.in_ok-blocks.blocks.items blocks put.layout put.schema put.rows put.segments refl put.column put.others

@@ -6,7 +6,8 @@ use Rattle.bw_model.proofs.ErrLemmas.{err_passed_on}
 use Rattle.bw_segment.specs.declared.placement.Placement.{Placement}
 use Rattle.bw_file.specs.Blocks.{block_fault, block_size}
 use Rattle.bw_memory.specs.StoredSegments.{piece_of, rows_numbered}
-use Rattle.bw_memory.proofs.ColumnarLemmas.{below_and, block_alike, has_error, is_valid}
+use Rattle.bw_file.proofs.FaultLemmas.{block_own}
+use Rattle.bw_memory.proofs.ColumnarLemmas.{below_and, block_alike, error_is_own, has_error, is_valid}
 use Rattle.bw_memory.proofs.ColumnarLemmas.{piece_cut, place_alike}
 use Rattle.bw_memory.proofs.StoredSegmentLemmas.{rows_cut}
 use Rattle.bw_memory.proofs.table.MemoryTable.validate_column.Goals as goal
@@ -54,6 +55,16 @@ returns-in_err-validate_block-clause-fault c =
       here = block_alike table.layout there columns c.args.col _ _ cut _ placed rows block ∙ found.1;
       is = found.2 ∙ place_alike c.args.at table.layout there columns c.args.col _ _ cut _ size _ number found.0 placed rows block is;
     })
+
+pub returns-in_err-validate_block-clause-table : goal.returns-in_err-validate_block-clause-table
+returns-in_err-validate_block-clause-table c =
+    let table = c.args.self.now in
+    let size = c.block_size-size.result in
+    let start = c.loop-number.number * size in
+    let cut = slice_range c.args.blocks.now start (start + size) in
+    let there = c.deref-in-loop-number.result.now.schema.columns.items in
+    rw (err_passed_on _ c.from_residual.ensures.1) (error_is_own (c.args.at + start) table.layout there c.min-rows.result c.args.col cut (block_fault table.layout there c.args.col c.min-rows.result cut) _
+    (block_own table.layout there c.args.col c.min-rows.result cut) c.in_err-validate_block.ensures.valid)
 
 pub loop-number-preserved : goal.loop-number-preserved
 loop-number-preserved c =

@@ -1,0 +1,54 @@
+//! Tables whose columns are in memory, or are read when they are needed.
+ghost use Rattle.std.specs.Prelude.{◌≡◌, ◌<◌, ℕ, IfErr, OnOk, length};
+ghost use Rattle.bw_file.specs.TableReading.{IsTableFault};
+ghost use Rattle.bw_memory.specs.ColumnStore.{ColumnSource, HasColumn, HasColumnFault, IsTableOf};
+ghost use Rattle.bw_memory.specs.MemoryTable.{schema_of};
+ghost use Rattle.bw_memory.specs.declared.table.MemoryTable.{MemoryTable};
+
+use crate::table::MemoryTable;
+use bw_model::Fault;
+use std::alloc::Global;
+
+/// A table whose columns are in memory, or are read from a file by columns when they are needed.
+pub trait ColumnStore {
+    /// The table, as far as it is in memory.
+    ghost table: { Self → MemoryTable };
+
+    /// Where its columns come from.
+    ghost source: { Self → ColumnSource };
+
+    /// Returns the table. Its rows may have any values in a column that wasn't read.
+    fn table(&self) -> &MemoryTable
+        ensures table { result.now ≡ table self.now }
+        ensures of { IsTableOf (source self.now) (table self.now) };
+
+    /// Reads a column, unless it is in memory. Errors: those of the file in this column (306 to 308,
+    /// 305); 701 if a read fails, or the file has changed; 801 if memory is refused. The columns that
+    /// were read stay.
+    fn read(&mut self, alloc: Global, column: usize) -> Result<(), Fault>
+        requires { column < length (schema_of (table self.old)).columns.items }
+        ensures read { OnOk result (HasColumn (source self.old) (table self.new) column) }
+        ensures refused { IfErr result (HasColumnFault (source self.old) column) }
+        ensures fault { IfErr result IsTableFault }
+        ensures kept { (other : ℕ) → HasColumn (source self.old) (table self.old) other
+            → HasColumn (source self.old) (table self.new) other }
+        ensures of { IsTableOf (source self.old) (table self.new) }
+        ensures schema { schema_of (table self.new) ≡ schema_of (table self.old) }
+        ensures source { source self.new ≡ source self.old };
+}
+
+impl ColumnStore for MemoryTable {
+    ghost use Rattle.bw_memory.specs.ColumnStore.{in_memory};
+
+    ghost table = { λ table. table };
+
+    ghost source = { in_memory };
+
+    fn table(&self) -> &MemoryTable {
+        self
+    }
+
+    fn read(&mut self, _alloc: Global, _column: usize) -> Result<(), Fault> {
+        Ok(())
+    }
+}

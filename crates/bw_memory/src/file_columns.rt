@@ -1,0 +1,113 @@
+//! The columns of a file by columns, each of which is read when it is needed.
+ghost use Rattle.std.proofs.Props.{props};
+ghost use Rattle.std.specs.Prelude.{◌≡◌, ◌-◌, ◌^◌, ◌<◌, IfErr, IfOk, IsTrue, OnErr, OnOk, false, length};
+ghost use Rattle.std.specs.Prelude.{true};
+ghost use Rattle.bw_io.specs.Source.{is_input_fault, is_read_fault};
+ghost use Rattle.bw_file.specs.TableReading.{IsTableFault};
+ghost use Rattle.bw_memory.specs.Columnar.{HasReadColumn, IsColumnFault, column_count, table_in};
+ghost use Rattle.bw_memory.specs.ColumnStore.{header_of, in_file};
+ghost use Rattle.bw_memory.specs.Columns.{IsBlank};
+ghost use Rattle.bw_memory.specs.FileColumns.{HasColumnsRead, IsBlankElsewhere};
+
+use crate::column_store::ColumnStore;
+use crate::columnar::ColumnarTable;
+use crate::table::MemoryTable;
+use bw_io::RandomAccess;
+use bw_model::{Fault, code};
+use std::alloc::Global;
+
+/// A file by columns and its table. A column is read when it is first needed, and stays in memory.
+/// Once a read has failed, or the file has changed, the file is read no more.
+#[derive(Drop)]
+pub struct FileColumns<D: RandomAccess + Drop> {
+    pub(crate) device: D,
+    pub(crate) columnar: ColumnarTable,
+    pub(crate) is_read: Vec<bool>,
+    pub(crate) is_lost: bool,
+    ghost all: { length is_read.items ≡ column_count columnar },
+    ghost have: { HasColumnsRead (D.state device).known columnar is_read.items } by { Prim.hlevel props },
+    ghost blank: { IsBlankElsewhere columnar is_read.items },
+    ghost counter_fits: { is_lost ≡ false → (D.state device).failures < 2 ^ 64 - 1 },
+    ghost confirmed: { is_lost ≡ false → (D.state device).confirmed ≡ true },
+}
+
+impl<D: RandomAccess + Drop> FileColumns<D> {
+    /// Returns the columns of a file by columns, given the file and its table as it was opened, with
+    /// no column read.
+    ///
+    /// Errors: 701 if the file has changed since it was opened; 801 if memory is refused. The
+    /// device's count of failures must be less than 2^64 - 1.
+    pub fn new(alloc: Global, mut device: D, columnar: ColumnarTable) -> Result<Self, Fault>
+        requires counter_fits { (D.state device).failures < 2 ^ 64 - 1 }
+        requires blank { IsBlank (table_in columnar) }
+        ensures table { IfOk result (λ columns. columns.columnar ≡ columnar) }
+        ensures known { IfOk result (λ columns. (D.state columns.device).known
+            ≡ (D.state device).known) }
+        ensures fault { IfErr result (λ fault. IsTrue (is_input_fault fault)) }
+    {
+        if device.confirm().is_err() {
+            return Err(Fault::new(code::READ_FAILED));
+        }
+        let count = columnar.table().schema().columns.len();
+        let mut is_read = Vec::with_capacity(alloc, count)?;
+        is_read.resize(count, false)?;
+        Ok(FileColumns {
+            device,
+            columnar,
+            is_read,
+            is_lost: false,
+        })
+    }
+
+    /// Reads a column into memory, unless the file has changed.
+    ///
+    /// Errors: those of [`ColumnarTable::read_column`]; 701 also if the file has changed.
+    fn read_from_file(&mut self, alloc: Global, column: usize) -> Result<(), Fault>
+        requires column { column < column_count self.old.columnar }
+        requires there { self.old.is_lost ≡ false }
+        ensures read { OnOk result (HasReadColumn (D.state self.old.device).known self.old.columnar
+            self.new.columnar column) }
+        ensures refused { IfErr result (IsColumnFault (D.state self.old.device).known
+            self.old.columnar column) }
+        ensures fault { IfErr result IsTableFault }
+        ensures untouched { OnErr result (self.new.columnar ≡ self.old.columnar) }
+        ensures known { (D.state self.new.device).known ≡ (D.state self.old.device).known }
+    {
+        let done = self.columnar.column_blocks(alloc, &mut self.device, column);
+        if has_failed_to_read(&done) || self.device.confirm().is_err() {
+            self.is_lost = true;
+            return Err(Fault::new(code::READ_FAILED));
+        }
+        let blocks = done?;
+        self.columnar.table.replace_column(alloc, column, blocks);
+        self.is_read[column] = true;
+        Ok(())
+    }
+}
+
+/// Returns whether a read failed.
+fn has_failed_to_read(done: &Result<Vec<u8>, Fault>) -> bool
+    ensures { result ≡ false → IfErr done.now (λ fault. is_read_fault fault ≡ false) }
+{
+    matches!(done, Err(fault) if fault.code == code::READ_FAILED)
+}
+
+impl<D: RandomAccess + Drop> ColumnStore for FileColumns<D> {
+    ghost table = { λ columns. table_in columns.columnar };
+
+    ghost source = { λ columns. in_file (D.state columns.device).known (header_of columns.columnar) };
+
+    fn table(&self) -> &MemoryTable {
+        self.columnar.table()
+    }
+
+    fn read(&mut self, alloc: Global, column: usize) -> Result<(), Fault> {
+        if self.is_read[column] {
+            return Ok(());
+        }
+        if self.is_lost {
+            return Err(Fault::new(code::READ_FAILED));
+        }
+        self.read_from_file(alloc, column)
+    }
+}

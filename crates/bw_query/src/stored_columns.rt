@@ -1,0 +1,33 @@
+//! Has the columns of a query in memory.
+ghost use Rattle.std.specs.Prelude.{◌≡◌, IfErr, OnOk};
+ghost use Rattle.bw_file.specs.TableReading.{IsTableFault};
+ghost use Rattle.bw_memory.specs.ColumnStore.{HasFirstFault, HasRows};
+ghost use Rattle.bw_memory.specs.MemoryTable.{rows_of, schema_of};
+ghost use Rattle.bw_query.specs.NamedColumns.{is_named_by};
+
+use crate::named_columns::is_named;
+use bw_memory::ColumnStore;
+use bw_model::{Fault, Query};
+use std::alloc::Global;
+
+/// Reads the columns that a query names, unless they are in memory. Errors: those of
+/// [`ColumnStore::read`], of the first column that has one.
+pub(crate) fn read_named<C: ColumnStore>(
+    alloc: Global,
+    store: &mut C,
+    query: &Query,
+) -> Result<(), Fault>
+    ensures rows { OnOk result (HasRows (C.source store.old) (is_named_by query.now)
+        (rows_of (C.table store.new))) }
+    ensures refused { IfErr result (HasFirstFault (C.source store.old) (is_named_by query.now)) }
+    ensures fault { IfErr result IsTableFault }
+    ensures source { C.source store.new ≡ C.source store.old }
+    ensures schema { schema_of (C.table store.new) ≡ schema_of (C.table store.old) }
+{
+    for column in 0..store.table().schema().columns.len() {
+        if is_named(query, column) {
+            store.read(alloc, column)?;
+        }
+    }
+    Ok(())
+}
