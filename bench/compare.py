@@ -1,8 +1,10 @@
 """Times whole queries beside C, sqlite3 and mawk, which answer the same questions.
 
 First bw is compared with bench/tuned.c, C that is tuned by hand and validates each block as bw
-does. Damaged table files show that both reject the same ones, with the same error at the same byte.
-With --only-tuned that is all. Then follow plain C (bench/query.c), sqlite3 and mawk, and a load in
+does: over table files, and over files by columns, of which both read the columns that a question
+needs. Damaged files show that both reject the same ones, with the same error at the same byte.
+Then one question is asked of 32 columns and of one. With --only-tuned that is all. Then follow
+plain C (bench/query.c), sqlite3 and mawk, and a load in
 each layout beside sqlite3's import, timed once. --sorted compares with plain C over rows sorted by
 the column of each condition, which a program can skip more of."""
 from __future__ import annotations
@@ -14,8 +16,8 @@ import subprocess
 import sys
 from typing import Dict, Iterator, List, Optional, Sequence, Tuple
 
-from data import (LAYOUTS, QUESTIONS, Question, bw_program, compiled, database_of,
-                  four_columns, schema_file, table_files, tables_of_rows)
+from data import (LAYOUTS, QUESTIONS, WIDE_ROWS, Question, bw_program, compiled, database_of,
+                  four_columns, schema_file, table_files, tables_of_rows, wide_tables)
 from timing import TOP, Words, agree, least, run, run_in_turn, show
 
 RUNS, ROWS = 15, 10_000_000
@@ -32,6 +34,8 @@ AWK = {
 }
 PLAIN = [question for question in QUESTIONS if question.name in AWK]
 PROGRAMS = ["below_8_by_planes", "below_8_by_bytes"]
+# the options of a load of each sort of file
+ORDERS: Dict[str, Sequence[str]] = {"by rows": (), "by columns": ("--columnar",)}
 # the rows of a table file of two segments, of 512 and of 2 rows, and bits that are flipped there,
 # as fault, byte and bit: each of the faults 301 to 310, 306 and 307 in both segments, and 308 and
 # 307 in null planes too
@@ -39,12 +43,18 @@ SMALL = "a,b,c,d\n" + "7,3,700,4294967295\n255,NULL,1000000,\n" * 257
 IN_HEADER = [(301, 0, 0), (302, 8, 2), (303, 9, 1), (304, 10, 2), (310, 15, 1), (304, 16, 6),
              (304, 17, 7), (304, 35, 7), (304, 36, 1), (304, 57, 0), (304, 89, 0), (305, 13, 2),
              (309, 12, 1)]
+# d gets 33 bits, for which version 1 has no room
+TOO_WIDE = (304, 89, 0)
 IN_BLOCKS = {
     "planes": [(306, 670, 0), (306, 2206, 1), (307, 606, 0), (307, 734, 1), (307, 2334, 1),
                (306, 4958, 0), (307, 5022, 1), (308, 4382, 2), (308, 4894, 2), (308, 8669, 7)],
     "slices": [(306, 670, 7), (306, 2207, 0), (307, 606, 0), (307, 671, 3), (307, 2783, 0),
                (306, 5406, 7), (307, 5407, 3), (308, 4832, 0), (308, 5342, 2), (308, 9565, 0)],
 }
+# the bytes of its header, and of a block of each column
+HEAD = 94
+SIZES = {"planes": (512, 384, 1280, 2112), "slices": (512, 576, 1536, 2112)}
+Damage = Tuple[int, int, int, str]
 Figures = List[Tuple[str, List[Optional[float]]]]
 
 
@@ -83,48 +93,96 @@ def calls_of(bw: str, tuned: pathlib.Path, question: Question, table: pathlib.Pa
     return [[bw, "query", table, f"SELECT {question.asked}"], [tuned, question.name, table]]
 
 
+def damage_of(layout: str, order: str) -> Iterator[Damage]:
+    """Yields which bits are flipped in the small file of a layout and an order: the error, the
+    byte, the bit, and the columns whose readers see it."""
+    is_by_rows, sizes = order == "by rows", SIZES[layout]
+    yield from ((*each, "") for each in IN_HEADER if is_by_rows or each != TOO_WIDE)
+    for fault, byte, bit in IN_BLOCKS[layout]:
+        segment, at = divmod(byte - HEAD, sum(sizes))
+        column = max(each for each in range(4) if sum(sizes[:each]) <= at)
+        moved = sum(sizes[:column]) + segment * (sizes[column] - sum(sizes))
+        yield (fault, byte, bit, "") if is_by_rows else (fault, byte + moved, bit, "abcd"[column])
+
+
 def compare_damaged(bw: str, tuned: pathlib.Path, folder: pathlib.Path) -> None:
-    """Checks that both programs reject table files in which one bit was flipped, with the same
-    error at the same byte."""
-    csv, path, count = folder / "small.csv", folder / "damaged.bw", 0
+    """Checks that both programs reject files in which one bit was flipped, with the same error at
+    the same byte, and that both answer if they don't read it."""
+    csv, count = folder / "small.csv", 0
     csv.write_text(SMALL, encoding="ascii")
-    for layout, table in table_files(bw, schema_file(folder), csv).items():
-        whole = table.read_bytes()
-        for question in QUESTIONS:
-            agree(question.asked, [run(words).text
-                                   for words in calls_of(bw, tuned, question, table)])
-        for fault, byte, bit in IN_HEADER + IN_BLOCKS[layout]:
-            path.write_bytes(whole[:byte] + bytes([whole[byte] ^ 1 << bit]) + whole[byte + 1:])
-            question = QUESTIONS[count % len(QUESTIONS)]
-            told = [fault_of(words) for words in calls_of(bw, tuned, question, path)]
-            if told[0] is None or told[0] != told[1] or told[0][0] != fault:
-                sys.exit(f"bit {bit} of byte {byte} in {layout} is error {fault}, but bw and the "
-                         f"tuned program report: {told}")
-            count += 1
+    for order, options in ORDERS.items():
+        for layout, table in table_files(bw, schema_file(folder), csv, *options).items():
+            for question in QUESTIONS:
+                agree(question.asked, [run(words).text
+                                       for words in calls_of(bw, tuned, question, table)])
+            for number, damage in enumerate(damage_of(layout, order)):
+                count += check_damage(bw, tuned, table, damage, number)
     print(f"bw and the tuned program reject {count} damaged files, with the same error at the "
           "same byte.\n", flush=True)
+
+
+def check_damage(bw: str, tuned: pathlib.Path, table: pathlib.Path, damage: Damage, number: int
+                 ) -> int:
+    """Checks what both say of a file with a flipped bit. Returns how often they reject it."""
+    fault, byte, bit, columns = damage
+    path, data = table.with_name("damaged.bw"), bytearray(table.read_bytes())
+    data[byte] ^= 1 << bit
+    path.write_bytes(data)
+    readers = [each for each in QUESTIONS if not columns or columns in each.needs]
+    question = readers[number % len(readers)]
+    told = [fault_of(words) for words in calls_of(bw, tuned, question, path)]
+    if told[0] is None or told[0] != told[1] or told[0][0] != fault:
+        sys.exit(f"bit {bit} of byte {byte} of {table.name} is error {fault}, but bw and the tuned "
+                 f"program report: {told}")
+    for question in QUESTIONS:
+        if question not in readers:
+            agree(question.asked, [run(words).text for at in (path, table)
+                                   for words in calls_of(bw, tuned, question, at)])
+    return 1
 
 
 def compare_tuned(bw: str, folder: pathlib.Path, rows: int, runs: int) -> None:
     """Prints the times beside tuned C."""
     tuned = compiled(folder, "tuned", "-O3", "-march=x86-64-v2")
     compare_damaged(bw, tuned, folder)
-    tables = tables_of_rows(bw, folder, rows)
+    for order, options in ORDERS.items():
+        tables = tables_of_rows(bw, folder, rows, "", *options)
+        show(f"Files {order} beside tuned C, ms, {rows:,} rows; minimum of {runs}",
+             ["Question", *(head for layout in LAYOUTS
+                            for head in (f"bw, {layout}", "tuned C", "bw / tuned C"))],
+             (beside_tuned(bw, tuned, tables, question, runs) for question in QUESTIONS))
+    show_widths(bw, folder, runs)
+
+
+def beside_tuned(bw: str, tuned: pathlib.Path, tables: Dict[str, pathlib.Path],
+                 question: Question, runs: int) -> Sequence[str]:
+    """Returns the line of a question."""
+    calls = {f"{number} {layout}": words for layout, table in tables.items()
+             for number, words in enumerate(calls_of(bw, tuned, question, table))}
+    found = run_in_turn(calls, runs)
+    agree(question.asked, [each.text for each in found.values()])
+    cells = [question.shown]
+    for layout in LAYOUTS:
+        ours, theirs = (found[f"{number} {layout}"].wall for number in (0, 1))
+        cells += [f"{ours:.1f}", f"{theirs:.1f}", f"{ours / theirs:.2f}"]
+    return cells
+
+
+def show_widths(bw: str, folder: pathlib.Path, runs: int) -> None:
+    """Prints the times of one question over one column, and over 32 of which it needs one."""
+    question = QUESTIONS[0]
 
     def lines() -> Iterator[Sequence[str]]:
-        for question in QUESTIONS:
-            calls = {f"{number} {layout}": words for layout, table in tables.items()
-                     for number, words in enumerate(calls_of(bw, tuned, question, table))}
-            found = run_in_turn(calls, runs)
-            agree(question.asked, [each.text for each in found.values()])
-            cells = [question.shown]
+        for order, options in ORDERS.items():
+            tables = {columns: wide_tables(bw, folder, columns, *options) for columns in (1, 32)}
             for layout in LAYOUTS:
-                ours, theirs = (found[f"{number} {layout}"].wall for number in (0, 1))
-                cells += [f"{ours:.1f}", f"{theirs:.1f}", f"{ours / theirs:.2f}"]
-            yield cells
-    show(f"Beside tuned C, ms, {rows:,} rows; minimum of {runs}",
-         ["Question", *(head for layout in LAYOUTS
-                        for head in (f"bw, {layout}", "tuned C", "bw / tuned C"))], lines())
+                found = run_in_turn({str(columns): [bw, "query", each[layout],
+                                                    f"SELECT {question.asked}"]
+                                     for columns, each in tables.items()}, runs)
+                one, many = (each.wall for each in found.values())
+                yield [order, layout, f"{one:.2f}", f"{many:.2f}", f"{many / one:.2f}"]
+    show(f"{question.shown} of one column and of 32, ms, {WIDE_ROWS:,} rows; minimum of {runs}",
+         ["File", "Layout", "1 column", "32 columns", "ratio"], lines())
 
 
 def load_times(bw: str, folder: pathlib.Path, rows: int) -> Tuple[str, List[Optional[float]]]:

@@ -4,6 +4,7 @@ from __future__ import annotations
 import os
 import pathlib
 import random
+import re
 import sqlite3
 import subprocess
 from functools import partial
@@ -12,6 +13,8 @@ from typing import Callable, Dict, Iterable, Iterator, NamedTuple, Sequence
 from timing import TOP, Words
 
 LAYOUTS = ("planes", "slices")
+# the rows of the wide tables
+WIDE_ROWS = 1_000_000
 SCHEMA = ("TABLE m\nCOLUMN a 0 255 NOT NULL\nCOLUMN b -10 10\n"
           "COLUMN c 0 1000000 NOT NULL\nCOLUMN d 0 4294967295\n")
 Values = Sequence[object]
@@ -28,6 +31,11 @@ class Question(NamedTuple):
     def shown(self) -> str:
         """The question as tables show it."""
         return f"`{self.asked.replace(' FROM m', '')}`"
+
+    @property
+    def needs(self) -> str:
+        """The names of the columns that it needs."""
+        return "".join(name for name in "abcd" if re.search(rf"\b{name}\b", self.asked))
 
 
 QUESTIONS = [
@@ -109,12 +117,13 @@ def four_columns(folder: pathlib.Path, rows: int, by: str = "") -> pathlib.Path:
     return complete(folder / f"rows-{by}-{rows}.csv", write)
 
 
-def table_files(bw: str, schema: pathlib.Path, csv: pathlib.Path) -> Dict[str, pathlib.Path]:
-    """Returns the table files of a CSV file, by layout."""
+def table_files(bw: str, schema: pathlib.Path, csv: pathlib.Path, *options: str
+                ) -> Dict[str, pathlib.Path]:
+    """Returns the table files of a CSV file, by layout, or its files by columns."""
     def load(layout: str, path: pathlib.Path) -> None:
-        call([bw, "load", "--layout", layout, schema, csv, path])
-    return {layout: complete(csv.with_name(f"{layout}-{csv.stem}.bw"), partial(load, layout))
-            for layout in LAYOUTS}
+        call([bw, "load", *options, "--layout", layout, schema, csv, path])
+    return {layout: complete(csv.with_name(f"{layout}{''.join(options)}-{csv.stem}.bw"),
+                             partial(load, layout)) for layout in LAYOUTS}
 
 
 def schema_file(folder: pathlib.Path) -> pathlib.Path:
@@ -122,10 +131,22 @@ def schema_file(folder: pathlib.Path) -> pathlib.Path:
     return written(folder / "rows.schema", SCHEMA)
 
 
-def tables_of_rows(bw: str, folder: pathlib.Path, rows: int, by: str = ""
+def tables_of_rows(bw: str, folder: pathlib.Path, rows: int, by: str = "", *options: str
                    ) -> Dict[str, pathlib.Path]:
-    """Returns the table files of the four columns, by layout."""
-    return table_files(bw, schema_file(folder), four_columns(folder, rows, by))
+    """Returns the table files of the four columns, by layout, or their files by columns."""
+    return table_files(bw, schema_file(folder), four_columns(folder, rows, by), *options)
+
+
+def wide_tables(bw: str, folder: pathlib.Path, columns: int, *options: str
+                ) -> Dict[str, pathlib.Path]:
+    """Returns the table files of a million rows of columns from 0 to 255, of which the first is
+    `a`, or their files by columns."""
+    names, draw = ["a", *(f"c{number}" for number in range(1, columns))], random.Random(3)
+    schema = written(folder / f"wide-{columns}.schema",
+                     "TABLE m\n" + "".join(f"COLUMN {name} 0 255 NOT NULL\n" for name in names))
+    csv = complete(folder / f"wide-{columns}.csv", lambda path: write_csv(
+        path, names, (list(draw.randbytes(columns)) for _ in range(WIDE_ROWS))))
+    return table_files(bw, schema, csv, *options)
 
 
 def database_of(folder: pathlib.Path, rows: int) -> pathlib.Path:

@@ -5,7 +5,7 @@ The result of 3 columns of all rows is timed beside Python's csv module, which c
 fields of each record of the same result. With --beside it times bw-import beside sqlite3's
 `.import` on tables of Debian's packages (tor-geoipdb, unicode-data, apt's own lists), on a list of
 files, and on made-up ones: processor seconds, and the ratio of their minima. A TABLE is one of
-their names."""
+their names. With --columnar it times imports by columns beside those by rows, in their place."""
 from __future__ import annotations
 
 import argparse
@@ -18,7 +18,7 @@ from typing import Dict, Iterator, Sequence
 
 import debian
 from data import complete
-from timing import TOP, Run, Words, peak_of, run, show
+from timing import TOP, Run, Words, peak_of, run, run_in_turn, show
 
 RUNS, ROWS = 3, 300_000
 TOOLS = TOP / "python" / "bin"
@@ -31,6 +31,7 @@ out.writerows(row[:3] for row in csv.reader(sys.stdin))"""
 def add_options(parser: argparse.ArgumentParser) -> None:
     """Adds the options of this comparison."""
     parser.add_argument("--beside", action="store_true", help="beside sqlite3's .import")
+    parser.add_argument("--columnar", action="store_true", help="imports by columns, by rows")
     parser.add_argument("tables", metavar="TABLE", nargs="*", help="tables for --beside")
 
 
@@ -69,6 +70,11 @@ def write_log(path: pathlib.Path, count: int) -> None:
 
 def measure(given: argparse.Namespace) -> None:
     """Prints the table."""
+    if given.columnar:
+        show(f"bw-import by rows and by columns, processor seconds; minimum of {given.runs}",
+             ["Table", "by rows", "by columns", "ratio", "peak MB by rows", "by columns"],
+             by_columns(given))
+        return
     if given.beside:
         show(f"bw-import beside sqlite3's .import, processor seconds; minimum of {given.runs}",
              ["Table", "rows", "sqlite3", "bw-import", "ratio", "bw-import's peak MB"],
@@ -114,3 +120,19 @@ def beside(given: argparse.Namespace) -> Iterator[Sequence[str]]:
             rows = sum(1 for _ in csv.reader(file)) - 1
         yield [name, f"{rows:,}", f"{min(theirs) / 1000:.2f}", f"{min(ours) / 1000:.2f}",
                f"{min(ours) / min(theirs):.1f}", peak_of(words)]
+
+
+def by_columns(given: argparse.Namespace) -> Iterator[Sequence[str]]:
+    """Yields the line of each table that is imported in both orders."""
+    for name in given.tables or debian.TABLES:
+        path = debian.made(given.folder, name)
+        if not path:
+            yield [name, "isn't installed here", "", "", "", ""]
+            continue
+        calls: Dict[str, Words] = {
+            order: [TOOLS / "bw-import", *options, "--table", "t", path, given.folder / "order.bw"]
+            for order, options in (("rows", []), ("columns", ["--columnar"]))}
+        found = run_in_turn(calls, given.runs, keep=False)
+        rows, columns = (found[order].processor / 1000 for order in calls)
+        yield [name, f"{rows:.2f}", f"{columns:.2f}", f"{columns / rows:.2f}",
+               *map(peak_of, calls.values())]

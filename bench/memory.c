@@ -220,6 +220,7 @@ int main(int words, char **word) {
     if (file < 0) give_up("the file can't be opened");
     make_spread();
     take_header(table);
+    if (by_columns) give_up("the file is by columns");
     find_columns(table);
     settle();
     read_columns();

@@ -12,7 +12,6 @@ from __future__ import annotations
 import argparse
 import os
 import pathlib
-import random
 import shutil
 import sqlite3
 import subprocess
@@ -21,14 +20,14 @@ from functools import partial
 from typing import Dict, Iterator, List, Optional, Sequence, Tuple
 
 from clickhouse import in_clickhouse
-from data import (LAYOUTS, QUESTIONS, bw_program, compiled, complete, four_columns, in_memory,
-                  table_files, tables_of_rows, write_csv, written)
+from data import (LAYOUTS, QUESTIONS, WIDE_ROWS, bw_program, compiled, four_columns, in_memory,
+                  tables_of_rows, wide_tables)
 from timing import TOP, Word, Words, agree, least, run, show, text_of_call
 
 RUNS, ROWS = 15, 10_000_000
 FEW, ROUNDS = 3, 6
-# the numbers of columns of the wide tables, which have a million rows each
-WIDTHS, WIDE_ROWS = [1, 8, 32], 1_000_000
+# the numbers of columns of the wide tables
+WIDTHS = [1, 8, 32]
 # what a session may take beside C, in times and milliseconds
 TARGET = (1.3, 0.15)
 # the time of a statement, and the lines of its result below the heading
@@ -237,17 +236,6 @@ def show_starts(bw: str, tables: Dict[str, pathlib.Path], peaks: Dict[str, float
                    f"{peaks[layout]:.1f}"]
     show("The first result of a session", ["Layout", "session, ms", "bw query, ms", "file, MB",
                                            "session's peak, MB"], lines())
-
-
-def wide_tables(bw: str, folder: pathlib.Path, columns: int) -> Dict[str, pathlib.Path]:
-    """Returns the table files of a million rows of columns from 0 to 255, of which the first is
-    `a`."""
-    names, draw = ["a", *(f"c{number}" for number in range(1, columns))], random.Random(3)
-    schema = written(folder / f"wide-{columns}.schema",
-                     "TABLE m\n" + "".join(f"COLUMN {name} 0 255 NOT NULL\n" for name in names))
-    csv = complete(folder / f"wide-{columns}.csv", lambda path: write_csv(
-        path, names, (list(draw.randbytes(columns)) for _ in range(WIDE_ROWS))))
-    return table_files(bw, schema, csv)
 
 
 def show_widths(bw: str, folder: pathlib.Path, runs: int) -> None:

@@ -1,5 +1,5 @@
-// The parts that bench/tuned.c and bench/memory.c share: the header of a table file, which is read in pieces; sets of 512 rows and
-// comparisons by the 128-bit operations of SSE2; totals; and writing the results.
+// The parts that bench/tuned.c and bench/memory.c share: the header of a table file or of one by columns, which is read in pieces;
+// sets of 512 rows and comparisons by the 128-bit operations of SSE2; totals; and writing the results.
 #include <ctype.h>
 #include <emmintrin.h>
 #include <fcntl.h>
@@ -8,10 +8,11 @@
 #include <stdlib.h>
 #include <string.h>
 #include <strings.h>
+#include <sys/stat.h>
 #include <unistd.h>
 
 enum { ROWS = 512, WORDS = ROWS / 64, PLANE = ROWS / 8, PARTS = PLANE / 16, MOST_COLUMNS = 64, MOST_ROWS = 1 << 24 };
-enum { PIECE = 128 * 1024, LARGEST = MOST_COLUMNS * (PLANE + 8 * ROWS) };
+enum { HEAD_PIECE = 1024, PIECE = 128 * 1024, LARGEST = MOST_COLUMNS * (PLANE + 8 * ROWS) };
 
 struct column {
     char name[256];
@@ -26,7 +27,7 @@ struct column {
 };
 
 static struct column column[MOST_COLUMNS];
-static int columns, in_slices;
+static int columns, in_slices, by_columns;
 static uint32_t row_count;
 static size_t segment_size;
 
@@ -46,6 +47,8 @@ static unsigned char buffer[LARGEST + PIECE] __attribute__((aligned(64)));
 static size_t at, end;
 static uint64_t passed;
 static int file;
+// how much is read at once: less of the header, since a file by columns isn't read on from there
+static size_t piece = HEAD_PIECE;
 
 // moves the unread bytes to the buffer's front, where the blocks of a segment are at multiples of 64
 static void settle(void) {
@@ -60,7 +63,7 @@ static size_t at_hand(size_t wanted) {
     if (end - at >= wanted) return end - at;
     settle();
     while (end < wanted) {
-        ssize_t count = read(file, buffer + end, PIECE);
+        ssize_t count = read(file, buffer + end, piece);
         if (count < 0) give_up("the file can't be read");
         if (count == 0) break;
         end += (size_t)count;
@@ -126,9 +129,11 @@ static void take_column(struct column *c, int version) {
 }
 
 static void take_header(char *table) {
-    if (memcmp(take(8), "BWCOLUMN", 8)) stop(301, 0);
+    const unsigned char *magic = take(8);
+    by_columns = !memcmp(magic, "BWBYCOLS", 8);
+    if (!by_columns && memcmp(magic, "BWCOLUMN", 8)) stop(301, 0);
     int version = *take(1);
-    if (version != 1 && version != 2) stop(302, 8);
+    if (version != 2 && (version != 1 || by_columns)) stop(302, 8);
     in_slices = *take(1);
     if (in_slices > 1) stop(303, 9);
     columns = (int)number(take(2), 2);
@@ -137,6 +142,7 @@ static void take_header(char *table) {
     if (row_count > MOST_ROWS) stop(310, 12);
     take_name(table, 0);
     for (int i = 0; i < columns; i++) take_column(&column[i], version);
+    piece = PIECE;
 }
 
 // Sets of rows, a bit each: four registers of 128 bits.
@@ -460,10 +466,13 @@ struct question {
     const char *name;
     void (*ask)(void);
     void (*write)(void);
+    // the names of the columns that it needs
+    const char *needs;
 };
 
+static const char *const NAME[ASKED] = {"a", "b", "c", "d"};
+
 static void find_columns(const char *table) {
-    static const char *const NAME[ASKED] = {"a", "b", "c", "d"};
     if (strcasecmp(table, "m")) give_up("the table isn't m");
     for (int which = 0; which < ASKED; which++) {
         size_t from = 0;

@@ -258,9 +258,9 @@ RESTORED: dict[bytes, bool] = {}
 
 
 def is_restored(table: pathlib.Path) -> bool:
-    """Returns whether a table file is the same after it was dumped and loaded again, in the same
-    layout and with the schema that `bw info` prints. A table of version 2 that doesn't need it is
-    restored as one of version 1. What `bw dump` rejects is left out."""
+    """Returns whether a table file, or one by columns, is the same after it was dumped and loaded
+    again, in the same layout and with the schema that `bw info` prints. A table of version 2 that
+    doesn't need it is restored as one of version 1. What `bw dump` rejects is left out."""
     before = table.read_bytes()
     mark = hashlib.sha256(before).digest()
     if mark not in RESTORED:
@@ -278,7 +278,8 @@ def is_loaded_again(table: pathlib.Path, before: bytes, told: bytes, dumped: byt
         table.parent / "again"
     schema.write_bytes(told)
     rows.write_bytes(dumped)
-    done = support.bw("load", "--layout", ["planes", "slices"][before[9]], schema, rows, again)
+    done = support.bw("load", *["--columnar"] * (before[:8] == b"BWBYCOLS"), "--layout",
+                      ["planes", "slices"][before[9]], schema, rows, again)
     after = again.read_bytes() if done.status == 0 else b""
     return after == before or before[8] != 1 and after == before[:8] + b"\1" + before[9:]
 

@@ -28,6 +28,10 @@ import check  # noqa: E402
 A_CSV, TRIES = 6, 6
 # what is changed for answers: nothing for every other CSV
 KINDS = ("answer", "statement", "answer", "schema", "answer", "CSV")
+# the files into which a CSV is loaded, and the options of each load
+FILES: dict[str, list[str]] = {
+    "planes.bw": [], "slices.bw": ["--layout", "slices"], "columns.bw": ["--columnar"],
+    "sliced_columns.bw": ["--columnar", "--layout", "slices"]}
 ERROR = re.compile(r"bw: (\d+) [^\d\n]*?(?: at (\w+ \d+))?\n")
 TOLD = re.compile(r"(\d+)(?: at \w+ \d+)?")
 
@@ -68,7 +72,8 @@ class Both:
         path.write_bytes(text if isinstance(text, bytes) else text.encode("latin-1"))
         return path
 
-    def bw(self, *words: object) -> str:
+    @staticmethod
+    def bw(*words: object) -> str:
         """Returns what bw prints, or the number and the place of its error."""
         done = support.bw(*words)
         error = ERROR.fullmatch(done.err)
@@ -91,10 +96,12 @@ class Both:
         return Compared(kind, f"{schema}{sql}\n{given.read_text('latin-1')}", theirs, said(ask))
 
     def answers(self, schema: str, csv: str, asked: list[tuple[str, str]]) -> Iterator[Compared]:
-        """Compares answers of a CSV, and of its table, if it can be loaded."""
+        """Compares answers of a CSV, and of its files by rows and by columns, if it can be
+        loaded."""
         paths = [self.write("t.schema", schema), self.write("t.csv", csv)]
-        table = self.folder / "t.bw"
-        is_loaded = support.bw("load", *paths, table).status == 0
+        loads = [self.bw("load", *options, *paths, self.folder / name)
+                 for name, options in FILES.items()]
+        yield from (Compared("load", f"{schema}{csv[:2000]}", each, loads[0]) for each in loads[1:])
         for kind, sql in asked:
             def ask(sql: str = sql) -> str:
                 known = check.Schema(schema.encode("latin-1"))
@@ -103,8 +110,9 @@ class Both:
 
             ours, what = said(ask), f"{schema}{csv[:2000]}\n{sql}"
             yield Compared(kind, what, self.bw("direct", *paths, sql), ours)
-            if is_loaded:
-                yield Compared(kind, what, self.bw("query", table, sql), ours)
+            for name in FILES if not loads[0] else ():
+                yield Compared(kind, f"{name}\n{what}",
+                               self.bw("query", self.folder / name, sql), ours)
 
     def planned(self, seed: str) -> Optional[Checked]:
         """Returns a planned program over a drawn schema, if there is one."""

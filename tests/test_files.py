@@ -69,6 +69,8 @@ def state(path, before, after):
 # argument
 TRACE_ME, PEEK_USER, DETACH, UNTIL_CALL, SET_OPTIONS, MARK_CALLS = 0, 3, 17, 24, 0x4200, 1
 CALL_NUMBER, FIRST_ARGUMENT = 8 * 15, 8 * 14
+# the numbers of system calls: read, and pread64
+READ, READ_AT = 0, 17
 LIBC = ctypes.CDLL(None, use_errno=True)
 LIBC.ptrace.argtypes = [ctypes.c_long, ctypes.c_long, ctypes.c_void_p, ctypes.c_void_p]
 LIBC.ptrace.restype = ctypes.c_long
@@ -82,16 +84,16 @@ def ptrace(request, process=0, at=0, data=0):
     return value
 
 
-def stopped_at_read(process, path, wanted):
-    """Runs a traced process until its read of a file of this number begins. Tells whether it came
-    to that."""
+def stopped_at_read(process, path, wanted, call):
+    """Runs a traced process until its read of a file of this number begins, by a system call. Tells
+    whether it came to that."""
     path, reads, begins = str(pathlib.Path(path).resolve()), 0, False
     _, status = os.waitpid(process, 0)
     ptrace(SET_OPTIONS, process, 0, MARK_CALLS)
     while not (os.WIFEXITED(status) or os.WIFSIGNALED(status)):
         if os.WSTOPSIG(status) == signal.SIGTRAP | 0x80:
             begins = not begins
-            if begins and ptrace(PEEK_USER, process, CALL_NUMBER) == 0:
+            if begins and ptrace(PEEK_USER, process, CALL_NUMBER) == call:
                 read_from = f"/proc/{process}/fd/{ptrace(PEEK_USER, process, FIRST_ARGUMENT)}"
                 reads += os.readlink(read_from) == path
                 if reads == wanted:
@@ -101,18 +103,18 @@ def stopped_at_read(process, path, wanted):
     return False
 
 
-def bw_meanwhile(path, change, *words, read=2):
+def bw_meanwhile(path, change, *words, read=2, call=READ):
     """Returns what a call prints if a file is changed at the start of this read of it. In a small
     file the second read finds the end."""
-    call = subprocess.Popen([BW, *map(str, words)], stdin=subprocess.DEVNULL,
-                            stdout=subprocess.PIPE, stderr=subprocess.PIPE,
-                            preexec_fn=lambda: ptrace(TRACE_ME))
-    if not stopped_at_read(call.pid, path, read):
+    begun = subprocess.Popen([BW, *map(str, words)], stdin=subprocess.DEVNULL,
+                             stdout=subprocess.PIPE, stderr=subprocess.PIPE,
+                             preexec_fn=lambda: ptrace(TRACE_ME))
+    if not stopped_at_read(begun.pid, path, read, call):
         return "no such read"
     change()
-    ptrace(DETACH, call.pid)
-    out, err = call.communicate(timeout=60)
-    return shown(subprocess.CompletedProcess(words, call.returncode, out, err))
+    ptrace(DETACH, begun.pid)
+    out, err = begun.communicate(timeout=60)
+    return shown(subprocess.CompletedProcess(words, begun.returncode, out, err))
 
 
 def aged(name, bytes_):

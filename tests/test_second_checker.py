@@ -43,7 +43,7 @@ class Sample(support.TestCase):
         self.assertGreater(len({each.counted for each in counts()["mutant"]}), 6)
 
     def test_answers(self):
-        self.check_same("answer", "statement", "schema", "CSV")
+        self.check_same("answer", "statement", "schema", "CSV", "load")
 
 
 class Files(support.TestCase):

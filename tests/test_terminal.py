@@ -195,16 +195,19 @@ CASES = [
     (["infer", "--table", "my sales", CSV],
      ['--table is "my sales": a name must not contain spaces', NAMES]),
     (["load", CSV, SCHEMA, "new.bw"],
-     [f"{CSV} seems to be a CSV file: expected a schema: bw load [--layout planes|slices] SCHEMA "
+     [f"{CSV} seems to be a CSV file: expected a schema: bw load [--columnar] "
+      "[--layout planes|slices] SCHEMA "
       "CSV OUT"]),
     (["direct", "long_rows.csv", SCHEMA, "SELECT a FROM t"],
      ["long_rows.csv seems to be a CSV file: expected a schema: bw direct SCHEMA CSV SQL"]),
     (["query", CSV, "SELECT a FROM t"],
      [f"{CSV} seems to be a CSV file: expected a table file: bw query [--program FILE] [--stats] "
       "TABLE SQL"]),
-    (["info", SCHEMA], [f"{SCHEMA} seems to be a schema: expected a table file: bw info TABLE"]),
+    (["info", SCHEMA], [f"{SCHEMA} seems to be a schema: expected a table file: bw info "
+                        "[--verify] TABLE"]),
     (["load", SCHEMA, "cut.bw", "new.bw"],
-     ["cut.bw seems to be a table file: expected a CSV file: bw load [--layout planes|slices] "
+     ["cut.bw seems to be a table file: expected a CSV file: bw load [--columnar] "
+      "[--layout planes|slices] "
       "SCHEMA CSV OUT"]),
     (["plan", SCHEMA, "SELECT a FROM t WHERE b = 99999999999999999999"],
      ["SELECT a FROM t WHERE b = 99999999999999999999", " " * 26 + "^",

@@ -9,6 +9,8 @@ from .._output import FORMATS
 if TYPE_CHECKING:
     import argparse
 
+COLUMNAR = "write files by columns, of which bw reads only the columns that a statement needs"
+
 
 def new_parser(name: str, text: str, usage: str | None = None) -> argparse.ArgumentParser:
     """Returns the parser of a program's command line, or of one of its commands."""
@@ -78,6 +80,7 @@ def add_loading(parser: argparse.ArgumentParser) -> None:
                              "are a million rows")
     parser.add_argument("--table", metavar="NAME", dest="name",
                         help="the tables' name (default: that of FOLDER)")
+    parser.add_argument("--columnar", action="store_true", help=COLUMNAR)
     parser.add_argument("--dry-run", action="store_true",
                         help="print the kind of each column, and write nothing")
     options.add_options(parser)
@@ -95,6 +98,7 @@ def add_import(parser: argparse.ArgumentParser) -> None:
     parser.add_argument("--shards", metavar="N", type=importing.number_of_shards,
                         help="write a folder of N shards; auto: one for each processor, if there "
                              "are a million rows")
+    parser.add_argument("--columnar", action="store_true", help=COLUMNAR)
     parser.add_argument("--dry-run", action="store_true",
                         help="print the kind of each column, and write nothing")
     parser.add_argument("--verify", action="store_true",

@@ -27,9 +27,9 @@ if TYPE_CHECKING:
 OPENINGS = 100
 DIGITS = 16
 # a header's bytes are at most those of 64 columns with names of 63 bytes
-TABLE_MAGIC, MOST_HEADER = b"BWCOLUMN", 1 << 13
-# the columns of a table file: their names, minimums and maximums
-Header = List[Tuple[str, int, int]]
+TABLE_MAGIC, COLUMNS_MAGIC, MOST_HEADER = b"BWCOLUMN", b"BWBYCOLS", 1 << 13
+# the columns of a table file: their names, minimums and maximums, and whether they may be null
+Header = List[Tuple[str, int, int, bool]]
 
 
 class Pair:
@@ -47,10 +47,10 @@ class Pair:
 
 
 def header_of(file: BinaryIO) -> tuple[bytes, Header]:
-    """Returns the header of a table file, and the columns that it names; nothing if it isn't one
-    that bw wrote."""
+    """Returns the header of a table file, or of one by columns, and the columns that it names;
+    nothing if it isn't one that bw wrote."""
     data = os.pread(file.fileno(), MOST_HEADER, 0)
-    if not data.startswith(TABLE_MAGIC):
+    if not data.startswith((TABLE_MAGIC, COLUMNS_MAGIC)):
         return b"", []
     columns: Header = []
     try:
@@ -60,7 +60,8 @@ def header_of(file: BinaryIO) -> tuple[bytes, Header]:
             end = at + 1 + data[at]
             columns.append((data[at + 1:end].decode("ascii", "replace"),
                             int.from_bytes(data[end:end + 8], "little", signed=True),
-                            int.from_bytes(data[end + 8:end + 16], "little", signed=True)))
+                            int.from_bytes(data[end + 8:end + 16], "little", signed=True),
+                            data[end + 16] == 1))
             at = end + 17
     except IndexError:
         return b"", []
@@ -75,10 +76,10 @@ def header_sum(file: BinaryIO) -> int:
 def are_columns_of(columns: Sequence[Column], file: BinaryIO) -> bool:
     """Returns whether a table file has these columns, and no number outside of a column's list."""
     found = header_of(file)[1]
-    if [each.name for each in columns] != [name for name, _, _ in found]:
+    if [each.name for each in columns] != [name for name, *_ in found]:
         return False
     lists = [(each.kind.listed, least, greatest)
-             for each, (_, least, greatest) in zip(columns, found)]
+             for each, (_, least, greatest, _) in zip(columns, found)]
     return all(listed is None or 0 <= least <= greatest < max(1, len(listed))
                for listed, least, greatest in lists)
 

@@ -478,7 +478,7 @@ def coded_at(path: pathlib.Path) -> Coded:
     with open(path, "rb") as file:
         data, columns = catalog.header_of(file)
     return Coded(path, int.from_bytes(data[12:16], "little"),
-                 [(least, greatest) for _, least, greatest in columns])
+                 [(least, greatest) for _, least, greatest, _ in columns])
 
 
 def check(name: str, status: int, told: str) -> None:
@@ -499,9 +499,10 @@ def output_of(words: Sequence[Any]) -> bytes:
     return done.stdout
 
 
-def recode(coded: Coded, schema: pathlib.Path, numbers: pathlib.Path, out: pathlib.Path) -> None:
-    """Writes the table of a schema, whose numbers are in place of the codes."""
-    output_of(["recode", coded.path, schema, numbers, out])
+def recode(coded: Coded, schema: pathlib.Path, numbers: pathlib.Path, out: pathlib.Path,
+           by_columns: bool) -> None:
+    """Writes the table of a schema, whose numbers are in place of the codes, perhaps by columns."""
+    output_of(["recode", *["--columnar"] * by_columns, coded.path, schema, numbers, out])
 
 
 class TooMuch(Exception):

@@ -453,10 +453,11 @@ class Table:
         return "\n".join(lines) + "\n"
 
     def write(self, place: int, name: str, out: pathlib.Path) -> None:
-        """Writes the table file of a part."""
+        """Writes the table file of a part, by columns if that is asked for."""
         schema = self.folder / f"schema-{place}"
         schema.write_text(self.schema(name), encoding="ascii")
-        encode.recode(self.coded.parts[place].coded, schema, self.numbers_path(place), out)
+        encode.recode(self.coded.parts[place].coded, schema, self.numbers_path(place), out,
+                      getattr(self.given, "columnar", False))
 
     def record(self, place: int, name: str, out: pathlib.Path) -> TableFile:
         """Writes the table file of a part, and returns its record among shards."""
