@@ -7,4 +7,5 @@ pub mod ReadColumnLemmas
 pub mod ReadColumnsLemmas
 pub mod StoredRows
 pub mod WholeColumnar
+pub mod WindowLemmas
 pub mod ReadLemmas

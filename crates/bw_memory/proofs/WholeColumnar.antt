@@ -53,7 +53,7 @@ use Rattle.bw_memory.specs.NamedRows.{read_row}
 use Rattle.bw_memory.specs.StoredSegments.{rows_numbered, stored_group, stored_groups}
 
 -- a piece of pieces that are equally long
-piece_at : {A : Type 0} (f : A → List ℕ) (P : A → Type 0) (size : ℕ) (d : A) → ((x : A) → P x → length (f x) ≡ size) → (xs : List A) → All P xs → (i : ℕ) → i < length xs → (rest : List ℕ)
+pub piece_at : {A : Type 0} (f : A → List ℕ) (P : A → Type 0) (size : ℕ) (d : A) → ((x : A) → P x → length (f x) ≡ size) → (xs : List A) → All P xs → (i : ℕ) → i < length xs → (rest : List ℕ)
     → take size (drop (i * size) (flat_map f xs ++ rest)) ≡ f (get_or xs i d)
 piece_at f P size d long [] all i lt rest = absurd (omega (arith, lt))
 piece_at f P size d long (x ∷ xs) all zero lt rest =
@@ -82,7 +82,7 @@ column_at f size before count n none more long (suc c) le =
     ∙ ap (λ k. flat_map f (range_with_len k (n - suc c))) (add-one c)
 
 -- texts of groups that are equally long
-length-pieces : {A : Type 0} (f : A → List ℕ) (P : A → Type 0) (size : ℕ) → ((x : A) → P x → length (f x) ≡ size) → (xs : List A) → All P xs → length (flat_map f xs) ≡ length xs * size
+pub length-pieces : {A : Type 0} (f : A → List ℕ) (P : A → Type 0) (size : ℕ) → ((x : A) → P x → length (f x) ≡ size) → (xs : List A) → All P xs → length (flat_map f xs) ≡ length xs * size
 length-pieces f P size long [] all = omega arith
 length-pieces f P size long (x ∷ xs) all =
     omega (arith, length-append (f x) (flat_map f xs), long x (All-head P x xs all), length-pieces f P size long xs (All-tail P x xs all))

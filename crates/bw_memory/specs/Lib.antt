@@ -7,3 +7,4 @@ pub mod StoredSegments
 pub mod MemoryTable
 pub mod ReadSegments
 pub mod NamedRows
+pub mod Windows

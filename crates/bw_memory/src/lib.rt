@@ -32,6 +32,7 @@ mod laws;
 mod layouts;
 mod opening;
 mod reading;
+mod segment_window;
 mod table;
 
 pub use column_store::ColumnStore;
@@ -39,4 +40,5 @@ pub use columnar::ColumnarTable;
 pub use file_columns::FileColumns;
 pub use laws::{columns_are_those_of_the_file, stored_rows_are_those_of_the_file};
 pub use opening::is_by_columns;
+pub use segment_window::SegmentWindow;
 pub use table::MemoryTable;

@@ -165,13 +165,9 @@ impl ColumnarTable {
         ensures count { (D.state device.new).failures
             ≡ (D.state device.old).failures + failed_by result }
     {
-        let size = block_size(self.table.layout, &self.table.placement, col);
-        let count = self.table.segments as usize * size;
-        let at = self.place_of(col);
-        let mut blocks = Vec::with_capacity(alloc, count)?;
-        blocks.resize(count, 0)?;
-        fill_at(device, at, &mut blocks)?;
-        self.table.validate_column(col, &blocks, at)?;
+        let mut blocks = Vec::new(alloc);
+        self.table
+            .read_blocks(device, col, self.place_of(col), &mut blocks)?;
         Ok(blocks)
     }
 
@@ -207,7 +203,7 @@ impl ColumnarTable {
     }
 
     /// Returns where the blocks of a column begin in the file.
-    fn place_of(&self, col: usize) -> u64
+    pub(crate) fn place_of(&self, col: usize) -> u64
         requires { col < length (schema_of (table_in self.now)).columns.items }
         ensures place { result ≡ place_in self.now col 0 }
         ensures bound { result < 2 ^ 60 }

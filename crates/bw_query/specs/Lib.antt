@@ -9,5 +9,6 @@ pub mod Consumers
 pub mod SegmentLemmas
 pub mod Trial
 pub mod NamedColumns
+pub mod ColumnarSegments
 pub mod ColumnarAnswer
 pub mod StoreAnswer

@@ -1,14 +1,18 @@
--- Out of memory after some groups of a table file, or after all; and the groups of a table in
--- memory.
-use Rattle.std.proofs.Common.{◌≡◌, ◌∙◌, ℕ, List, ◌++◌, refl, sym}
+-- Out of memory after some groups of a table file, or after all; the same of a file by columns, and
+-- of a table in memory.
+use Rattle.std.proofs.Common.{◌≡◌, ◌∙◌, ℕ, Bool, List, ◌++◌, arith, refl, sym}
 use Rattle.bw_model.specs.Fault.{no_memory}
 use Rattle.bw_model.specs.Row.{Value}
+use Rattle.bw_io.specs.RandomAccess.{AccessState}
 use Rattle.bw_file.specs.Reading.{State, HasConsumed}
 use Rattle.bw_file.specs.TableReader.{FrontsEndEarly, ReadProgress}
 use Rattle.bw_file.specs.declared.table_reader.TableReader.{TableReader}
+use Rattle.bw_memory.specs.declared.columnar.ColumnarTable.{ColumnarTable}
+use Rattle.bw_memory.specs.declared.segment_window.SegmentWindow.{SegmentWindow}
 use Rattle.bw_file.proofs.MemoryAnswers.{memory_answers}
 use Rattle.bw_file.proofs.ReaderLemmas.{ends_early}
 use Rattle.bw_file.proofs.ReadingLemmas.{took_more}
+use Rattle.bw_query.specs.ColumnarSegments.{HasFailedPart, HasGivenAllParts, HasGivenParts, HasRead}
 use Rattle.bw_query.specs.Segments.{HasFailed, HasGiven, HasGivenAll}
 
 -- the bytes of what was read, fewer of which end too early
@@ -33,3 +37,15 @@ file_fails_after old reader groups now all = λ start read.
 -- out of memory is the only error of a table in memory
 pub memory_fails : no_memory ≡ no_memory
 memory_fails = refl
+
+-- no read failed
+no_part_failed : (old now : AccessState) → HasRead old now → HasFailedPart old now no_memory
+no_part_failed old now read = record { known = read.known; failures = omega (arith, read.failures) }
+
+pub parts_fail_among : {old now : AccessState} {columnar : ColumnarTable} {wanted : List Bool} {groups : List (List (List Value))} {window : SegmentWindow} {next : ℕ} {P Q : Type 0}
+    → P × Q × HasGivenParts old columnar wanted groups now window next → HasFailedPart old now no_memory
+parts_fail_among gave = no_part_failed _ _ gave.2.read
+
+pub parts_fail_after : {old now : AccessState} {columnar : ColumnarTable} {wanted : List Bool} {groups : List (List (List Value))} → HasGivenAllParts old columnar wanted groups now
+    → HasFailedPart old now no_memory
+parts_fail_after all = no_part_failed _ _ all.read

@@ -1,24 +1,26 @@
 //! Runs queries over a file by columns, of which only the columns that are needed are read.
 ghost use Rattle.std.specs.Prelude.{◌≡◌, ◌+◌, ◌-◌, ◌^◌, ◌<◌, ◌≤◌, ℕ, List, Result, None, true, false};
-ghost use Rattle.std.specs.Prelude.{IfOk, IfErr, IsTrue, OnOk, length, vec_len};
+ghost use Rattle.std.specs.Prelude.{IfOk, IfErr, IsTrue, OnOk, length, not, vec_len};
 ghost use Rattle.std.specs.List.{list_all};
 ghost use Rattle.std.specs.Io.KnownBytes.{Appends};
 ghost use Rattle.bw_model.specs.declared.fault.Fault.{Fault};
 ghost use Rattle.bw_model.specs.Total.{item_within};
 ghost use Rattle.bw_sql.specs.Items.{AreOfOneKind};
 ghost use Rattle.bw_io.specs.Sink.{WriteOutcome, is_write_fault, none_aside};
-ghost use Rattle.bw_io.specs.Source.{failed_by, is_input_fault};
+ghost use Rattle.bw_io.specs.Source.{failed_by, is_input_fault, is_read_fault};
 ghost use Rattle.bw_memory.specs.Columnar.{HasColumns, HasDamage, SameHeader, column_count};
 ghost use Rattle.bw_memory.specs.Columnar.{table_in};
 ghost use Rattle.bw_memory.specs.Columns.{IsBlank};
 ghost use Rattle.bw_memory.specs.MemoryTable.{groups_in, rows_of, schema_of};
 ghost use Rattle.bw_query.specs.ColumnarAnswer.{ColumnarText, IsColumnarAnswer};
+ghost use Rattle.bw_query.specs.ColumnarSegments.{IsTextByColumns};
 ghost use Rattle.bw_query.specs.NamedColumns.{is_read};
 ghost use Rattle.bw_query.specs.Scan.{IsFor, given_file, program_of};
 ghost use Rattle.bw_query.specs.Segments.{IsTextOf};
 ghost use Rattle.bw_query.specs.Served.{IsServed};
 ghost use Rattle.bw_query.specs.TableAnswer.{by_dump, by_statement};
 
+use crate::columnar_segments::columnar_text;
 use crate::memory_segments::memory_text;
 use crate::named_columns::columns_read;
 use crate::scan::Scan;
@@ -26,7 +28,7 @@ use crate::served::{TableText, report_of};
 use crate::table_calls::{every_row, prepare};
 use bw_io::{Failed, RandomAccess, Sink, write_whole};
 use bw_memory::ColumnarTable;
-use bw_model::{Fault, Query, code};
+use bw_model::{Fault, Place, Query, code};
 use bw_report::Served;
 use std::alloc::Global;
 
@@ -109,6 +111,65 @@ pub fn dump_by_columns<D: RandomAccess, K: Sink>(
 /// column was read. Errors: those of the columns; 701 if a read fails or the file has changed; 801
 /// if memory is refused.
 fn text_by_columns<D: RandomAccess>(
+    alloc: Global,
+    device: &mut D,
+    columnar: &mut ColumnarTable,
+    query: &Query,
+    scan: &Scan,
+) -> Result<TableText, Fault>
+    requires counter_fits { (D.state device.old).failures < 2 ^ 64 - 1 }
+    requires blank { IsBlank (table_in columnar.old) }
+    requires items { IsTrue (list_all (item_within
+        (vec_len (schema_of (table_in columnar.old)).columns)) query.now.items.items) }
+    requires nonempty { 1 ≤ length query.now.items.items }
+    requires kinds { AreOfOneKind query.now.items.items }
+    requires scan { IsFor (schema_of (table_in columnar.old)).columns.items query.now.cond scan.now }
+    ensures text { IfOk result (λ found. IsTextByColumns (D.state device.old).known columnar.old
+        query.now scan.now found.text.items found.scanned) }
+    ensures header { SameHeader columnar.old columnar.new }
+    ensures refused { IfErr result (λ fault. is_input_fault fault ≡ false
+        → HasDamage (D.state device.old).known (is_read (program_of scan.now) query.now)
+        columnar.new fault) }
+    ensures fault { IfErr result (λ fault. is_write_fault fault ≡ false) }
+    ensures confirmed { IfOk result (λ _. (D.state device.new).confirmed ≡ true) }
+    ensures count { (D.state device.new).failures
+        ≡ (D.state device.old).failures + failed_by result }
+{
+    let wanted = columns_read(alloc, query, scan, columnar.table().schema().columns.len())?;
+    let found = match columnar_text(alloc, device, columnar, &wanted, query, scan) {
+        Err(fault) if is_damage(fault) => {
+            return text_in_memory(alloc, device, columnar, query, scan);
+        }
+        found => found?,
+    };
+    match device.confirm() {
+        Ok(()) => Ok(found),
+        Err(Failed) => Err(Fault::new(code::READ_FAILED)),
+    }
+}
+
+/// Returns whether an error is one of the file's bytes: no failed read, and not out of memory.
+fn is_damage(fault: Fault) -> bool
+    ensures { result ≡ not (is_input_fault fault) }
+{
+    !fault.is_memory() && !is_read_fault(fault)
+}
+
+/// Returns whether an error is a failed read.
+fn is_read_fault(fault: Fault) -> bool
+    ensures { result ≡ is_read_fault fault }
+{
+    matches!(
+        fault,
+        Fault {
+            code: code::READ_FAILED,
+            place: Place::Nowhere,
+        }
+    )
+}
+
+/// Returns the same, with the columns in memory, one read after another: so an error is the first one.
+fn text_in_memory<D: RandomAccess>(
     alloc: Global,
     device: &mut D,
     columnar: &mut ColumnarTable,

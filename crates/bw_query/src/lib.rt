@@ -12,6 +12,7 @@
 
 mod answer_consumer;
 mod columnar_calls;
+mod columnar_segments;
 mod consumer;
 mod file_segments;
 mod file_text;

@@ -1,7 +1,7 @@
 //! The segments of a table in memory.
 ghost use Rattle.std.proofs.Props.{props};
 ghost use Rattle.std.specs.Prelude.{◌≡◌, ◌+◌, ◌-◌, ◌<◌, ◌≤◌, IfOk, IfSome, IsTrue, length, vec_len};
-ghost use Rattle.std.specs.Prelude.{IsOkUnless};
+ghost use Rattle.std.specs.Prelude.{IsOkUnless, None};
 ghost use Rattle.std.specs.List.{list_all};
 ghost use Rattle.bw_model.specs.Fault.{no_memory};
 ghost use Rattle.bw_model.specs.Groups.{together};
@@ -42,28 +42,27 @@ struct MemorySegments<'a, L: CodeLayout> {
     ghost within: { next ≤ segments_in table.now },
 }
 
-impl<'a, L: CodeLayout> MemorySegments<'a, L> {
-    /// Returns the next segment. Errors: 801 if memory is refused.
-    #[inline(always)]
-    fn next_segment(&mut self) -> Result<PackedSegment<L, NumberedBlocks<'a>>, Fault>
-        requires { self.old.next < segments_in self.old.table.now }
-        ensures means { IfOk result (λ segment.
-            ⟦<PackedSegment<L, NumberedBlocks<'a>> as Segment>⟧.meaning segment
-            ≡ meaning_numbered self.old.table.now self.old.next) }
-        ensures placed { IfOk result (λ segment.
-            segment.placement.value ≡ placement_of self.old.table.now) }
-        ensures next { IfOk result (λ _. self.new.next ≡ self.old.next + 1) }
-        ensures table { self.new.table.now ≡ self.old.table.now }
-        ensures only_oom { IsOkUnless result no_memory }
-    {
-        let table = self.table;
-        let number = self.next;
-        let segment = match self.placement.take() {
-            Some(placement) => table.placed_segment(placement, number),
-            None => table.segment(number)?,
-        };
-        self.next += 1;
-        Ok(segment)
+/// Returns the segment of a number, by the placement of another one of the table, if there is one,
+/// which it takes over. Errors: 801 if memory is refused.
+#[inline(always)]
+pub(crate) fn next_segment<'a, L: CodeLayout>(
+    table: &'a MemoryTable,
+    placement: &mut Option<Rc<Placement>>,
+    number: u32,
+) -> Result<PackedSegment<L, NumberedBlocks<'a>>, Fault>
+    requires layout { form_of (layout_of table.now) ≡ L.packing }
+    requires number { number < segments_in table.now }
+    requires placed { IfSome placement.old (λ shared. shared.value ≡ placement_of table.now) }
+    ensures means { IfOk result (λ segment.
+        ⟦<PackedSegment<L, NumberedBlocks<'a>> as Segment>⟧.meaning segment
+        ≡ meaning_numbered table.now number) }
+    ensures placed { IfOk result (λ segment. segment.placement.value ≡ placement_of table.now) }
+    ensures taken { placement.new ≡ None }
+    ensures only_oom { IsOkUnless result no_memory }
+{
+    match placement.take() {
+        Some(placement) => Ok(table.placed_segment(placement, number)),
+        None => table.segment(number),
     }
 }
 
@@ -101,9 +100,10 @@ impl<'a, L: CodeLayout> Segments<()> for MemorySegments<'a, L> {
         if self.next == self.table.segments() {
             return Ok(false);
         }
-        let segment = self.next_segment()?;
+        let segment = next_segment::<L>(self.table, &mut self.placement, self.next)?;
         consumer.take(&segment, registers)?;
         self.placement = Some(segment.placement);
+        self.next += 1;
         Ok(true)
     }
 

@@ -9,7 +9,7 @@ use Rattle.bw_memory.proofs.ReadColumnsLemmas.{damage_alike, read_alike}
 use Rattle.bw_query.specs.NamedColumns.{is_read}
 use Rattle.bw_query.specs.Scan.{program_of}
 use Rattle.bw_query.proofs.ColumnarExits.{wanted_is}
-use Rattle.bw_query.proofs.columnar_calls.text_by_columns.Goals as goal
+use Rattle.bw_query.proofs.columnar_calls.text_in_memory.Goals as goal
 
 pub read_columns-requires-clause-each : goal.read_columns-requires-clause-each
 read_columns-requires-clause-each g c =
