@@ -1,5 +1,5 @@
 -- The segments of a file by columns that were read one after another, as one table.
-use Rattle.std.proofs.Common.{◌≡◌, ◌≢◌, ◌∙◌, refl, sym, ap, ap₂, subst, ℕ, zero, suc, ◌+◌, ◌*◌, ◌<◌, ◌≤◌, ◌^◌, Bool, true, false, cond, ltb}
+use Rattle.std.proofs.Common.{◌≡◌, ◌≢◌, ◌∙◌, refl, sym, ap, ap₂, subst, ℕ, zero, suc, ◌+◌, ◌-◌, ◌*◌, ◌<◌, ◌≤◌, ◌^◌, Bool, true, false, cond, ltb}
 use Rattle.std.proofs.Common.{Vec, Global, List, [], ◌∷◌, ◌++◌, flat_map, get_or, map, set, length, take, drop, min, None, Option, inl, inr, add-one, append-nil, length-set, arith}
 use Rattle.std.specs.Prelude.{IfSome}
 use Rattle.std.specs.List.{range_with_len}
@@ -9,26 +9,32 @@ use Rattle.bw_model.specs.declared.column.Column.{Column}
 use Rattle.bw_model.specs.Groups.{group_size}
 use Rattle.bw_model.specs.Row.{Value}
 use Rattle.bw_segment.specs.declared.column_blocks.ColumnBlocks.{ColumnBlocks}
+use Rattle.bw_segment.specs.declared.placement.Placement.{Placement}
+use Rattle.bw_segment.specs.Packing.{block_bytes}
 use Rattle.bw_segment.specs.ColumnBlocks.{block_numbered, segment_numbered}
 use Rattle.bw_segment.proofs.ColumnBlockLemmas.{block_of_other, block_of_segment}
+use Rattle.bw_segment.proofs.FrontLemmas.{if_some}
 use Rattle.bw_segment.proofs.SoundLemmas.{length-cut, same_in_range}
+use Rattle.bw_file.specs.declared.layout.Layout.{Layout}
 use Rattle.bw_file.specs.Blocks.{block_fault, block_size, form_of, rows_spelled}
 use Rattle.bw_file.proofs.BodyLemmas.{before_within}
 use Rattle.bw_file.proofs.SegmentLemmas.{is_packing, segment_small}
 use Rattle.bw_memory.specs.declared.columnar.ColumnarTable.{ColumnarTable}
+use Rattle.bw_memory.specs.declared.segment_window.SegmentWindow.{SegmentWindow}
 use Rattle.bw_memory.specs.declared.table.MemoryTable.{MemoryTable}
-use Rattle.bw_memory.specs.Columnar.{AreFileBlocks, HasBlock, HasColumns, SameHeader, column_count, table_in}
+use Rattle.bw_memory.specs.Columnar.{AreFileBlocks, HasBlock, HasColumns, SameHeader, column_count, place_in, table_in}
 use Rattle.bw_memory.specs.Columns.{IsBlank, block_in}
+use Rattle.bw_memory.specs.Filling.{AreBytesAt}
 use Rattle.bw_memory.specs.MemoryTable.{groups_in, layout_of, placement_of, schema_of, segments_in}
 use Rattle.bw_memory.specs.StoredSegments.{StoresSegments, piece_of, rows_numbered, stored_group, stored_groups}
-use Rattle.bw_memory.specs.Windows.{HasGroups, HasPartsBefore, IsSegmentRead, group_spelled}
-use Rattle.bw_memory.proofs.ColumnarLemmas.{few_segments, groups_cut, replaced_column, replaced_stored, small_product, valid_from}
+use Rattle.bw_memory.specs.Windows.{HasGroups, HasPartsBefore, IsPart, IsSegmentRead, first_in, group_spelled, window_in}
+use Rattle.bw_memory.proofs.ColumnarLemmas.{few_segments, groups_cut, pieces_known, replaced_column, replaced_stored, small_product, valid_from}
 use Rattle.bw_memory.proofs.ReadColumnLemmas.{replaced}
 use Rattle.bw_memory.proofs.ReadColumnsLemmas.{added, none_read, passed}
 use Rattle.bw_memory.proofs.WholeColumnar.{length-pieces, piece_at}
 
 -- what a function gives before a number, and this from there on
-pick : {A : Type 0} (n : ℕ) (f : ℕ → A) (x : A) → ℕ → A
+abbrev pick : {A : Type 0} (n : ℕ) (f : ℕ → A) (x : A) → ℕ → A
 pick n f x number = cond (ltb number n) (f number) x
 
 pick_before : {A : Type 0} (n : ℕ) (f : ℕ → A) (x : A) (number : ℕ) → number < n → pick n f x number ≡ f number
@@ -47,6 +53,92 @@ element [] i lt = absurd (omega (arith, lt))
 element (x ∷ l) zero lt = x
 element (x ∷ l) (suc i) lt = element l i (omega (arith, lt))
 
+-- a table of the rows from a segment on, no more than those of so many segments, is a part of the file
+pub is_part : (columnar : ColumnarTable) (first most : ℕ) (table : MemoryTable) → layout_of table ≡ layout_of (table_in columnar) → placement_of table ≡ placement_of (table_in columnar)
+    → first + most ≤ segments_in (table_in columnar) → table.rows ≡ min ((table_in columnar).rows - group_size * first) (group_size * most) → IsPart columnar first table
+unfolding group_size
+is_part columnar first most table layout placement within rows = record {
+  layout = layout;
+  placement = placement;
+  within = elim (cases_lt 0 table.segments) [
+    | inl some ↦ omega (arith, table.kept.nonempty (table.segments - 1) (omega arith), rows, within)
+    | inr none ↦ omega arith
+  ];
+  rows = λ number lt. omega (arith, table.kept.nonempty number lt, rows);
+}
+
+-- and has a segment, if there is a row
+pub has_segment : (table : MemoryTable) → 1 ≤ table.rows → 1 ≤ segments_in table
+unfolding group_size
+has_segment table some = omega (arith, table.kept.all)
+
+-- the blocks of a window's column are those of the file
+pub window_block : (known : Option (List ℕ)) (columnar : ColumnarTable) (first : ℕ) (table : MemoryTable) → IsPart columnar first table → (col at number : ℕ) (read block : List ℕ)
+    → at ≡ place_in columnar col 0 + first * block_size (layout_of table) (schema_of table).columns.items col → length read ≡ segments_in table * block_size (layout_of table) (schema_of table).columns.items col
+    → number < segments_in table → IfSome known (AreBytesAt at read) → block ≡ piece_of read (block_size (layout_of table) (schema_of table).columns.items col) number
+    → IfSome known (HasBlock columnar col (first + number) block)
+window_block known columnar first table part col at number read block place long there filled is =
+    let L = layout_of (table_in columnar) in
+    let C = (schema_of (table_in columnar)).columns.items in
+    let size = block_size (layout_of table) (schema_of table).columns.items col in
+    let same : size ≡ block_size L C col = ap₂ (λ (l : Layout) (c : List Column). block_size l c col) part.layout (ap (λ (p : Placement). p.schema.columns.items) part.placement) in
+    let both : (first + number) * block_size L C col ≡ first * block_size L C col + number * block_size L C col = omega arith in
+    let places : at + number * size ≡ place_in columnar col (first + number) = omega (arith, place, ap (λ n. first * n) same, ap (λ n. number * n) same, both) in
+    if_some known _ _ (λ bytes cut. is ∙ cut ∙ ap₂ (λ n m. take n (drop m bytes)) same places) (pieces_known known at (segments_in table) size number read long there filled)
+
+-- one column more of a window
+module _ (known : Option (List ℕ)) (columnar : ColumnarTable) (read : ℕ → Bool) where
+  pub parts_added : (old new : SegmentWindow) (col : ℕ) → HasPartsBefore known columnar read (first_in old) (window_in old) col → read col ≡ true
+      → ((number : ℕ) → number < segments_in (window_in old) → IfSome known (HasBlock columnar col (first_in old + number) (block_in (window_in new) number col)))
+      → ((other : ℕ) → other ≢ col → (number : ℕ) → block_in (window_in new) number other ≡ block_in (window_in old) number other)
+      → first_in new ≡ first_in old → segments_in (window_in new) ≡ segments_in (window_in old) → layout_of (window_in new) ≡ layout_of (window_in old)
+      → placement_of (window_in new) ≡ placement_of (window_in old) → (window_in new).rows ≡ (window_in old).rows → HasPartsBefore known columnar read (first_in new) (window_in new) (col + 1)
+  parts_added old new col before is blocks others first segments layout placement rows =
+      let fewer : (number : ℕ) → number < segments_in (window_in new) → number < segments_in (window_in old) = λ number lt. omega (arith, lt, segments) in
+      let moved : (column number : ℕ) (block : List ℕ) → IfSome known (HasBlock columnar column (first_in old + number) block) → IfSome known (HasBlock columnar column (first_in new + number) block) =
+      λ column number block has. subst (λ f. IfSome known (HasBlock columnar column (f + number) block)) (sym first) has in
+      record {
+        part = record {
+          layout = layout ∙ before.part.layout;
+          placement = placement ∙ before.part.placement;
+          within = omega (arith, first, segments, before.part.within);
+          rows = λ number lt. ap (λ n. rows_numbered n number) rows ∙ before.part.rows number (fewer number lt) ∙ ap (λ f. rows_numbered (table_in columnar).rows (f + number)) (sym first);
+        };
+        blocks = λ column lt needed number there. elim (cases_eq column col) [
+          | inl same ↦ rw same (moved col number (block_in (window_in new) number col) (blocks number (fewer number there)))
+          | inr off ↦
+              moved column number (block_in (window_in new) number column)
+              (subst (λ (block : List ℕ). IfSome known (HasBlock columnar column (first_in old + number) block)) (sym (others column off number)) (before.blocks column (omega (arith, lt, off)) needed number (fewer number there)))
+        ];
+        blank = λ column lt un number there.
+            let off : column ≢ col = λ same. let e : true ≡ false = sym is ∙ ap read (sym same) ∙ un in cc e in
+            others column off number ∙ before.blank column lt un number (fewer number there)
+            ∙ sym (ap₂ (λ (L : Layout) (C : List Column). block_bytes (form_of L) C column []) layout (ap (λ (p : Placement). p.schema.columns.items) placement));
+      }
+
+  pub parts_passed : (window : SegmentWindow) (col : ℕ) → HasPartsBefore known columnar read (first_in window) (window_in window) col → read col ≡ false
+      → HasPartsBefore known columnar read (first_in window) (window_in window) (col + 1)
+  parts_passed window col before un = record {
+    part = before.part;
+    blocks = λ column lt needed. elim (cases_eq column col) [
+      | inl same ↦ absurd (let e : true ≡ false = sym needed ∙ ap read same ∙ un in cc e)
+      | inr off ↦ before.blocks column (omega (arith, lt, off)) needed
+    ];
+    blank = before.blank;
+  }
+
+-- what holds of a table holds by an equal header
+module _ (L M : Layout) (C D : List Column) where
+  moved_sizes : (f : ℕ → List ℕ) → M ≡ L → D ≡ C → ((column : ℕ) → column < length D → length (f column) ≡ block_size M D column) → (column : ℕ) → column < length C → length (f column) ≡ block_size L C column
+  moved_sizes f a b holds = rw (← a, ← b) holds
+
+  moved_valid : (r s : ℕ) (f : ℕ → List ℕ) → M ≡ L → D ≡ C → s ≡ r → ((column : ℕ) → column < length D → block_fault M D column s (f column) ≡ None) → (column : ℕ) → column < length C
+      → block_fault L C column r (f column) ≡ None
+  moved_valid r s f a b c holds = rw (← a, ← b, ← c) holds
+
+  moved_rows : (r s : ℕ) (f : ℕ → List ℕ) → M ≡ L → D ≡ C → s ≡ r → rows_spelled L C r (flat_map f (range_with_len 0 (length C))) ≡ rows_spelled M D s (flat_map f (range_with_len 0 (length D)))
+  moved_rows r s f a b c = rw (a, b, c) refl
+
 module _ (known : Option (List ℕ)) (columnar : ColumnarTable) (read : ℕ → Bool) where
   abbrev whole : MemoryTable
   whole = table_in columnar
@@ -60,7 +152,10 @@ module _ (known : Option (List ℕ)) (columnar : ColumnarTable) (read : ℕ → 
   -- the segment of a number of a window comes after those before it
   module _ (first at : ℕ) (table : MemoryTable) (groups : List (List (List Value))) (window : HasPartsBefore known columnar read first table (column_count columnar)) (there : at < segments_in table)
       (so_far : HasGroups known columnar read (first + at) groups) where
-    few : rows_numbered table.rows at ≤ 512
+    same_columns : (schema_of table).columns.items ≡ columns
+    same_columns = ap (λ (p : Placement). p.schema.columns.items) window.part.placement
+
+    few : rows_numbered table.rows at ≤ group_size
     unfolding group_size
     few = omega arith
 
@@ -75,13 +170,13 @@ module _ (known : Option (List ℕ)) (columnar : ColumnarTable) (read : ℕ → 
 
     here : IsSegmentRead known columnar read (first + at) (block_in table at)
     here = record {
-      sizes = rw (← window.part.layout, ← window.part.placement) length-here;
-      valid = rw (← window.part.layout, ← window.part.placement, ← window.part.rows at there) valid-here;
+      sizes = moved_sizes (layout_of whole) (layout_of table) columns (schema_of table).columns.items (block_in table at) window.part.layout same_columns length-here;
+      valid = moved_valid (layout_of whole) (layout_of table) columns (schema_of table).columns.items (rows_numbered whole.rows (first + at)) (rows_numbered table.rows at) (block_in table at) window.part.layout same_columns (window.part.rows at there) valid-here;
       there = λ column lt is. window.blocks column lt is at there;
-      blank = rw (← window.part.layout, ← window.part.placement) (λ column lt un. window.blank column (rw (← window.part.placement) lt) un at there);
+      blank = λ column lt un. window.blank column lt un at there ∙ ap₂ (λ (L : Layout) (C : List Column). block_bytes (form_of L) C column []) window.part.layout same_columns;
     }
 
-    blocks_more : ℕ → ℕ → List ℕ
+    abbrev blocks_more : ℕ → ℕ → List ℕ
     blocks_more = pick (first + at) so_far.blocks (block_in table at)
 
     group_same : (f g : ℕ → List ℕ) (number : ℕ) → f ≡ g
@@ -93,7 +188,8 @@ module _ (known : Option (List ℕ)) (columnar : ColumnarTable) (read : ℕ → 
         ≡ stored_group (layout_of table) (schema_of table).columns.items table.rows table.columns.items at
     unfolding segment_numbered
     spelled_here =
-        rw (← window.part.layout, ← window.part.placement, ← window.part.rows at there) (ap (λ n. rows_spelled (layout_of table) (schema_of table).columns.items (rows_numbered table.rows at) (flat_map (block_in table at) (range_with_len 0 n))) (sym table.kept.blocks.all))
+        moved_rows (layout_of whole) (layout_of table) columns (schema_of table).columns.items (rows_numbered whole.rows (first + at)) (rows_numbered table.rows at) (block_in table at) window.part.layout same_columns (window.part.rows at there)
+        ∙ ap (λ n. rows_spelled (layout_of table) (schema_of table).columns.items (rows_numbered table.rows at) (flat_map (block_in table at) (range_with_len 0 n))) (sym table.kept.blocks.all)
 
     pub one_read : HasGroups known columnar read (first + at + 1) (groups ++ stored_group (layout_of table) (schema_of table).columns.items table.rows table.columns.items at ∷ [])
     one_read = record {
@@ -105,7 +201,7 @@ module _ (known : Option (List ℕ)) (columnar : ColumnarTable) (read : ℕ → 
             subst (λ n. IsSegmentRead known columnar read n (blocks_more n)) last (subst (IsSegmentRead known columnar read (first + at)) (sym (pick_last (first + at) so_far.blocks (block_in table at))) here)
       ];
       is = ap₂ (λ (l : List (List (List Value))) (g : List (List Value)). l ++ g ∷ [])
-          (so_far.is ∙ map_alike (group_spelled columnar so_far.blocks) (group_spelled columnar blocks_more) 0 (first + at) (λ number from to. group_same _ _ number (sym (pick_before (first + at) so_far.blocks (block_in table at) number (omega (arith, to))))))
+          (so_far.is ∙ map_alike (group_spelled columnar so_far.blocks) (group_spelled columnar blocks_more) 0 (first + at) (λ number from to. group_same (so_far.blocks number) (blocks_more number) number (sym (pick_before (first + at) so_far.blocks (block_in table at) number (omega (arith, to))))))
           (sym (group_same _ _ (first + at) (pick_last (first + at) so_far.blocks (block_in table at)) ∙ spelled_here))
           ∙ sym (map-range_with_len_more (group_spelled columnar blocks_more) 0 (first + at) (first + at) (omega arith));
     }
@@ -118,7 +214,7 @@ module _ (known : Option (List ℕ)) (columnar : ColumnarTable) (read : ℕ → 
     abbrev size : ℕ → ℕ
     size column = block_size (layout_of (table_in columnar)) columns column
 
-    all_bytes : ℕ → List ℕ
+    abbrev all_bytes : ℕ → List ℕ
     all_bytes column = flat_map (λ number. blocks number column) (range_with_len 0 segments)
 
     below : (k d : ℕ) → k < length (range_with_len 0 segments) → get_or (range_with_len 0 segments) k d < segments
@@ -136,7 +232,7 @@ module _ (known : Option (List ℕ)) (columnar : ColumnarTable) (read : ℕ → 
       piece-all number there =
           ap (λ (l : List ℕ). piece_of l (size column) number) (sym (append-nil (all_bytes column)))
           ∙ piece_at (λ n. blocks n column) (λ n. n < segments) (size column) 0 (λ n within. (are n within).sizes column lt) (range_with_len 0 segments) below number (omega (arith, there, length-range_with_len 0 segments)) []
-          ∙ ap (λ n. blocks n column) (get_or-range_with_len 0 segments number 0 there)
+          ∙ ap (λ n. blocks n column) {x = get_or (range_with_len 0 segments) number 0} {y = number} (omega (arith, get_or-range_with_len 0 segments number 0 there))
 
       short : length (all_bytes column) < 2 ^ 63
       short =
@@ -145,7 +241,7 @@ module _ (known : Option (List ℕ)) (columnar : ColumnarTable) (read : ℕ → 
           omega (arith, length-all, small_product segments (size column) (few_segments (table_in columnar)) (omega (arith, within, small)))
 
       -- the column of these bytes, in the memory of another one
-      column_of : ColumnBlocks → ColumnBlocks
+      abbrev column_of : ColumnBlocks → ColumnBlocks
       column_of d = record {
         size = size column;
         stride = size column;
@@ -157,7 +253,7 @@ module _ (known : Option (List ℕ)) (columnar : ColumnarTable) (read : ℕ → 
 
     -- the file's table, with these columns
     module _ (kept : Vec ColumnBlocks Global) (stored : StoresSegments (layout_of (table_in columnar)) columns whole.rows segments kept.items) where
-      table_of : ColumnarTable
+      abbrev table_of : ColumnarTable
       table_of = record {
         table = record {
           layout = whole.layout;
@@ -204,16 +300,16 @@ module _ (known : Option (List ℕ)) (columnar : ColumnarTable) (read : ℕ → 
       inside : count < length made.kept.items
       inside = omega (arith, lt, made.stored.blocks.all)
 
-      fresh : ColumnBlocks
+      abbrev fresh : ColumnBlocks
       fresh = column_of count lt (element made.kept.items count inside)
 
-      items_more : List ColumnBlocks
+      abbrev items_more : List ColumnBlocks
       items_more = set made.kept.items count fresh
 
       valid : (number : ℕ) → number < segments → block_fault (layout_of (table_in columnar)) columns count (rows_numbered whole.rows number) (piece_of (all_bytes count) (size count) number) ≡ None
       valid number there = ap (block_fault (layout_of (table_in columnar)) columns count (rows_numbered whole.rows number)) (piece-all count lt number there) ∙ (are number there).valid count lt
 
-      kept_more : Vec ColumnBlocks Global
+      abbrev kept_more : Vec ColumnBlocks Global
       kept_more = record {
         ptr = made.kept.ptr;
         len = made.kept.len;
@@ -252,18 +348,18 @@ module _ (known : Option (List ℕ)) (columnar : ColumnarTable) (read : ℕ → 
         ];
       }
 
+    one_made : (count : ℕ) → count < column_count columnar → (b : Bool) → read count ≡ b → Made count → Made (count + 1)
+    one_made count lt true is made = column_made count lt is made
+    one_made count lt false is made = column_passed count is made
+
     made : (count : ℕ) → count ≤ column_count columnar → Made count
     made zero le = none_made
-    made (suc count) le = subst Made (add-one count) (by_read (read count) refl)
-      where
-        by_read : (b : Bool) → read count ≡ b → Made (count + 1)
-        by_read true is = column_made count (omega (arith, le)) is (made count (omega (arith, le)))
-        by_read false is = column_passed count is (made count (omega (arith, le)))
+    made (suc count) le = subst Made (add-one count) (one_made count (omega (arith, le)) (read count) refl (made count (omega (arith, le))))
 
     all_made : Made (column_count columnar)
     all_made = made (column_count columnar) (omega arith)
 
-    pub whole_table : ColumnarTable
+    abbrev pub whole_table : ColumnarTable
     whole_table = table_of all_made.kept all_made.stored
 
     pub whole_same : SameHeader columnar whole_table

@@ -156,6 +156,7 @@ impl MemoryTable {
             ≡ None }
         ensures layout { layout_of self.new ≡ layout_of self.old }
         ensures schema { schema_of self.new ≡ schema_of self.old }
+        ensures placement { placement_of self.new ≡ placement_of self.old }
         ensures rows { self.new.rows ≡ self.old.rows }
         ensures segments { segments_in self.new ≡ segments_in self.old }
         ensures column { (number : ℕ) → number < segments_in self.old

@@ -34,6 +34,7 @@ mod opening;
 mod reading;
 mod segment_window;
 mod table;
+mod windows;
 
 pub use column_store::ColumnStore;
 pub use columnar::ColumnarTable;
