@@ -43,9 +43,12 @@ pub fn prove<'a>(
     } else {
         ORDERS
     };
-    let first = prover.certify(schema, program, rows);
+    let unproved = match prover.certify(schema, program, rows) {
+        Ok(certificate) => return Ok(certificate),
+        Err(unproved) => unproved,
+    };
     for order in 1..orders {
-        if !matches!(&first, Err(Unproved::Unordered | Unproved::Unknown { .. })) {
+        if !matches!(&unproved, Unproved::Unordered | Unproved::Unknown { .. }) {
             break;
         }
         let other = prove_in_order(alloc, schema, cond, program, rows, order);
@@ -53,7 +56,7 @@ pub fn prove<'a>(
             return other;
         }
     }
-    first
+    Err(unproved)
 }
 
 /// Finds a certificate as [`prove`] does, with the order of variables of this number.
