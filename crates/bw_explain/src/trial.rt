@@ -171,7 +171,7 @@ impl Trial<'_> {
             Instr::Xor(r, x, y) => (r, xor(plane_in(registers, x), plane_in(registers, y))),
             Instr::Not(r, x) => (r, not(plane_in(registers, x))),
             Instr::Fill(r, false) => (r, mask(0)),
-            Instr::Fill(r, true) => (r, mask(512)),
+            Instr::Fill(r, true) => (r, not(&mask(0))),
             Instr::Load(r, column, bit) => (r, self.bit(column.into(), bit.into())),
             Instr::Nulls(r, column) => (r, self.nulls(column.into())),
             Instr::ByteLt(r, column, slice, byte) => {
