@@ -118,7 +118,7 @@ impl Case<'_> {
                 assert!(rt; !is_right, "right on {:?}", row.values);
                 Ok(Verdict::Differs)
             }
-            Unproved::OnlyUnadmitted => {
+            Unproved::OnlyUnadmitted { .. } => {
                 let is_right = self.is_right(rt, alloc, program, self.rows)?;
                 assert!(rt; is_right, "wrong on a row that is admitted");
                 Ok(Verdict::OnlyUnadmitted)
@@ -130,7 +130,7 @@ impl Case<'_> {
             Unproved::Unknown { witness: None, .. } => Ok(Verdict::Unknown),
             Unproved::Unwritten { .. } => Ok(Verdict::Unwritten),
             Unproved::Unordered => Ok(Verdict::Unordered),
-            Unproved::Limit => Ok(Verdict::Limit),
+            Unproved::Limit { .. } => Ok(Verdict::Limit),
             Unproved::NoRule => Ok(Verdict::NoRule),
             Unproved::Memory => panic!(rt; "out of memory"),
         }

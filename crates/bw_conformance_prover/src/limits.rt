@@ -43,7 +43,7 @@ fn the_longest_program_ends_at_a_limit(rt: HostRuntime) -> Result<(), Fail> {
     let program = Program::new(alloc, &schema, &instrs, 0)?.ok_or("no program")?;
     for rows in [0, 1000, u32::MAX] {
         let made = prove(alloc, &schema, &Cond::Always, &program, rows);
-        assert!(rt; matches!(made, Err(Unproved::Limit)), "{rows} rows");
+        assert!(rt; matches!(made, Err(Unproved::Limit { .. })), "{rows} rows");
     }
     Ok(())
 }

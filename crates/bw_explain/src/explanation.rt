@@ -1,5 +1,6 @@
 //! Chooses the explanation of an error by its number.
 use crate::csv_text::put_csv;
+use crate::fallback::put_unplanned;
 use crate::file_kind::put_kind;
 use crate::heading::put_name_reason;
 use crate::program_file::put_program;
@@ -38,7 +39,8 @@ fn put_reason(text: &mut Text, fault: &Fault, inputs: &Inputs<'_>) {
     match (fault.code, inputs.sql) {
         (100..300, _) => put_csv(text, file, schema, fault),
         (400..500, Some(sql)) => put_statement(text, schema, sql, fault),
-        (500..651 | code::NO_CERTIFICATE, _) => put_program(text, file, fault),
+        (500..651 | code::NO_CERTIFICATE, _) => put_program(text, schema, file, fault),
+        (code::NO_PROGRAM, Some(sql)) => put_unplanned(text, schema, sql, ""),
         _ => {}
     }
     if let (code::NO_CERTIFICATE, Some(sql), Some(schema)) = (fault.code, inputs.sql, schema) {

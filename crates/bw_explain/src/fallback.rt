@@ -10,20 +10,34 @@ use std::alloc::{AllocError, Global};
 /// statement is rejected.
 pub fn explain_fallback(alloc: Global, schema: &Schema, sql: &[u8]) -> Result<String, AllocError> {
     let mut text = Text::new(alloc);
-    if let Ok(query) = parse(alloc, schema, sql) {
-        put_fallback(&mut text, schema, &query.cond);
-    }
+    put_unplanned(
+        &mut text,
+        Some(schema),
+        sql,
+        "the query used the fallback: ",
+    );
     text.finish()
 }
 
-/// Appends why a condition has no scan program.
-fn put_fallback(text: &mut Text, schema: &Schema, cond: &Cond) {
+/// Appends why a statement's condition has no scan program, after some words.
+pub(crate) fn put_unplanned(text: &mut Text, schema: Option<&Schema>, sql: &[u8], before: &str) {
+    if let Some(schema) = schema
+        && let Ok(query) = parse(text.alloc, schema, sql)
+    {
+        put_condition(text, schema, &query.cond, before);
+    }
+}
+
+/// Appends why a condition has no scan program, after some words.
+fn put_condition(text: &mut Text, schema: &Schema, cond: &Cond, before: &str) {
     if let Some(apart) = apart_in(cond, &schema.columns) {
+        text.put(before);
         put_apart(text, &apart);
     } else if !matches!(cond, Cond::Always)
         && let Some(unplanned) = why_unplanned(text.alloc, schema, cond)
     {
-        text.put("the query used the fallback: there is no scan program for the condition\n");
+        text.put(before);
+        text.put("there is no scan program for the condition\n");
         text.put(match unplanned {
             Unplanned::Length =>
                 "it takes more instructions or registers than a program may have\n",
@@ -55,7 +69,7 @@ fn put_apart(text: &mut Text, apart: &Apart<'_>) {
         Op::Le => " <= ",
         Op::Ge => " >= ",
     };
-    text.put("the query used the fallback: there is no scan program for ");
+    text.put("there is no scan program for ");
     put!(text; one, sign, other);
     text.put("\nscan programs can compare two columns only if their minimums are equal: ");
     put!(text; one, " starts at ", apart.one.lo, ", ", other, " at ", apart.other.lo, "\n");

@@ -38,7 +38,7 @@ pub(crate) fn put_kind(text: &mut Text, fault: &Fault, inputs: &Inputs<'_>) -> b
 }
 
 /// Returns what a file seems to be by its first bytes, if they show it: by the first line that
-/// isn't blank or a comment.
+/// isn't blank or a comment, which in other languages begins with `;`.
 fn kind_of(bytes: &[u8]) -> Option<&'static str> {
     if bytes.starts_with(b"BWCOLUMN") {
         return Some(TABLE);
@@ -54,7 +54,7 @@ fn kind_of(bytes: &[u8]) -> Option<&'static str> {
             return Some(SCHEMA);
         } else if Opcode::of(word).is_some() {
             return Some(PROGRAM);
-        } else if !word.is_empty() && !line.starts_with(b"#") {
+        } else if !word.is_empty() && !line.starts_with(b"#") && !word.starts_with(b";") {
             return has_separator(line).then_some(CSV);
         }
     }

@@ -9,19 +9,25 @@
 //! Read `explanation.rt` first, which chooses by the error's number, and `text.rt`, to which all
 //! append. `csv_text.rt` explains errors of CSV texts, with `heading.rt` for the heading;
 //! `statement.rt` explains errors of statements, with `foreign.rt` for other dialects;
-//! `program_file.rt` explains errors of program files, and `uncertified.rt` why there is no
-//! certificate.
+//! `program_file.rt` explains errors of program files, with `instruction_form.rt` for their lines, and
+//! `uncertified.rt` why there is no certificate, with `samples.rt` and `trial.rt` for the rows that a
+//! program is tried on, and `turn.rt` for comparisons to turn round.
 #![tactic(auto)]
 
+mod claim;
 mod csv_text;
 mod explanation;
 mod fallback;
 mod file_kind;
 mod foreign;
 mod heading;
+mod instruction_form;
 mod program_file;
+mod samples;
 mod statement;
 mod text;
+mod trial;
+mod turn;
 mod uncertified;
 
 pub use explanation::{Inputs, explain, explain_ignored, explain_name};

@@ -1,12 +1,13 @@
 //! Explains a line of a program file.
+use crate::instruction_form::put_form;
 use crate::text::{Shown, Text, put};
 use bw_cert::split_file;
-use bw_model::{Fault, Place, code};
+use bw_model::{Fault, Place, Schema, code};
 use bw_text::{LineKind, Lines, Opcode};
 
-/// Appends the line of a program file's error. If it is an instruction's line of the certificate,
-/// also appends the instruction.
-pub(crate) fn put_program(text: &mut Text, file: &[u8], fault: &Fault) {
+/// Appends the line of a program file's error, and what it may be, if it is one of the program. If
+/// it is an instruction's line of the certificate, also appends the instruction.
+pub(crate) fn put_program(text: &mut Text, schema: Option<&Schema>, file: &[u8], fault: &Fault) {
     let Place::Line(number) = fault.place else {
         return;
     };
@@ -16,6 +17,9 @@ pub(crate) fn put_program(text: &mut Text, file: &[u8], fault: &Fault) {
     }
     if matches!(fault.code, code::INSTRUCTION_LINE | code::REGISTER_UNKNOWN) {
         put_instruction(text, file, number);
+    }
+    if let (Some(schema), Some(line)) = (schema, line_at(file, number)) {
+        put_form(text, schema, line, fault.code);
     }
 }
 
@@ -58,6 +62,25 @@ fn instruction_line(program: &[u8], before: u64) -> Option<&[u8]> {
         }
     }
     None
+}
+
+/// Returns the number of the line of an instruction, from 0, or of the result after the last one.
+pub(crate) fn line_of(program: &[u8], instruction: usize) -> u64 {
+    let mut lines = Lines::new(program);
+    let (mut number, mut before) = (1u64, 0usize);
+    for _ in 0..program.len() {
+        let Some(line) = lines.cut_line() else {
+            break;
+        };
+        if Opcode::of(first_word(line)).is_some() {
+            if before == instruction {
+                break;
+            }
+            before = before.saturating_add(1);
+        }
+        number = number.saturating_add(1);
+    }
+    number
 }
 
 /// Returns the first word of a line; the empty one, if it has none.

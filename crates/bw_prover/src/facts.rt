@@ -10,7 +10,7 @@ use crate::ledger::Ledger;
 use crate::nodes::{Branch, Nodes};
 use crate::order::VariableOrder;
 use crate::product::{MAX_PRODUCTS, Waiting};
-use crate::unproved::Unproved;
+use crate::unproved::{Counted, Unproved};
 use bw_cert_text::ProductLine;
 use bw_model::{Cond, Operand, Schema};
 use std::alloc::{AllocError, Global};
@@ -41,12 +41,13 @@ pub(crate) struct Facts<'a> {
 
 impl<'a> Facts<'a> {
     /// Returns no facts, with a limit of product rows, for a condition whose columns give the order
-    /// of variables.
+    /// of variables of this number.
     pub(crate) fn new(
         alloc: Global,
         schema: &'a Schema,
         cond: &Cond,
         rows: u32,
+        order: u8,
     ) -> Result<Self, AllocError>
         ensures schema { IfOk result (λ facts. facts.schema.now ≡ schema.now) }
         ensures limit { IfOk result (λ facts. facts.products.limit ≡ min rows most_products) }
@@ -55,10 +56,10 @@ impl<'a> Facts<'a> {
             alloc,
             schema,
             nodes: Nodes::new(alloc),
-            chains: Ledger::new(alloc, MAX_CHAINS),
-            products: Ledger::new(alloc, rows.min(MAX_PRODUCTS)),
+            chains: Ledger::new(alloc, Counted::Chains, MAX_CHAINS),
+            products: Ledger::new(alloc, Counted::Rows, rows.min(MAX_PRODUCTS)),
             waiting: Vec::new(alloc),
-            order: VariableOrder::new(alloc, schema, cond)?,
+            order: VariableOrder::new(alloc, schema, cond, order)?,
         })
     }
 

@@ -1,7 +1,7 @@
 //! Facts in the order in which they were added, each of which occurs once and can be found.
 ghost use Rattle.std.specs.Prelude.{◌≡◌, ◌≤◌, IfOk, length};
 
-use crate::unproved::Unproved;
+use crate::unproved::{Counted, Unproved};
 use std::alloc::Global;
 
 /// What distinguishes an entry from others.
@@ -19,7 +19,9 @@ pub(crate) struct Ledger<T: Copy> {
     pub(crate) count: u32,
     /// How many entries it may have.
     pub(crate) limit: u32,
-    pub(crate) ghost counted: { length entries.items ≡ count },
+    /// What its entries are.
+    counted: Counted,
+    pub(crate) ghost numbered: { length entries.items ≡ count },
     pub(crate) ghost within: { count ≤ limit },
 }
 
@@ -27,8 +29,8 @@ pub(crate) struct Ledger<T: Copy> {
 const FEWEST_SLOTS: usize = 256;
 
 impl<T: Copy> Ledger<T> {
-    /// Returns no entries, with a limit of their number.
-    pub(crate) fn new(alloc: Global, limit: u32) -> Self
+    /// Returns no entries, of a kind, with a limit of their number.
+    pub(crate) fn new(alloc: Global, counted: Counted, limit: u32) -> Self
         ensures count { result.count ≡ 0 }
         ensures limit { result.limit ≡ limit }
     {
@@ -38,6 +40,7 @@ impl<T: Copy> Ledger<T> {
             slots: Vec::new(alloc),
             count: 0,
             limit,
+            counted,
         }
     }
 
@@ -55,7 +58,7 @@ impl<T: Copy> Ledger<T> {
     {
         let number = self.count;
         if number >= self.limit {
-            return Err(Unproved::Limit);
+            return Err(self.passed());
         }
         if number as usize >= self.slots.len() / 2 {
             self.spread()?;
@@ -73,10 +76,18 @@ impl<T: Copy> Ledger<T> {
         ensures count { self.new.count ≡ self.old.count }
     {
         if self.count > limit {
-            return Err(Unproved::Limit);
+            return Err(self.passed());
         }
         self.limit = limit;
         Ok(())
+    }
+
+    /// Returns that there may be no more entries.
+    pub(crate) fn passed(&self) -> Unproved {
+        Unproved::Limit {
+            counted: self.counted,
+            most: self.limit,
+        }
     }
 
     /// Returns the slot of the entry with a key, or else the empty one for it: at least every second

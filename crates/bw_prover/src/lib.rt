@@ -34,4 +34,4 @@ mod witness;
 pub use comparison::{Comparison, compare};
 pub use product::MAX_PRODUCTS;
 pub use prover::{Prover, prove};
-pub use unproved::{Unproved, Witness};
+pub use unproved::{Counted, Unproved, Witness};

@@ -2,13 +2,13 @@
 ghost use Rattle.std.specs.Prelude.{◌≡◌, ◌-◌, Some, IfOk, slice_get};
 
 use crate::emit::NO_LINE;
-use crate::unproved::Unproved;
+use crate::unproved::{Counted, Unproved};
 use bw_cert_text::NodeLine;
 use indexmap::IndexSet;
 use std::alloc::{AllocError, Global};
 
 /// The most nodes of a certificate, besides the two terminals.
-const MAX_NODES: usize = 65_534;
+const MAX_NODES: u32 = 65_534;
 
 /// What a node is: the variable that it tests, and the numbers of its children, for 0 and for 1.
 #[derive(Clone, Copy, PartialEq, Eq, Hash)]
@@ -16,6 +16,13 @@ pub(crate) struct Branch {
     pub(crate) v: u64,
     pub(crate) low: u64,
     pub(crate) high: u64,
+}
+
+impl Branch {
+    /// Returns whether it is its variable's bit, or the opposite.
+    pub(crate) fn is_bit(self) -> bool {
+        self.low < 2 && self.high < 2
+    }
 }
 
 /// The nodes from number 2 on: 0 and 1 are the terminals.
@@ -49,8 +56,11 @@ impl Nodes {
             slice_get self.new.branches.keys (number - 2) ≡ Some node) }
     {
         let (place, _) = self.branches.insert_full(node)?;
-        if place >= MAX_NODES {
-            return Err(Unproved::Limit);
+        if place >= MAX_NODES as usize {
+            return Err(Unproved::Limit {
+                counted: Counted::Nodes,
+                most: MAX_NODES,
+            });
         }
         Ok(place as u64 + 2)
     }

@@ -27,11 +27,25 @@ pub(crate) struct VariableOrder {
     /// Whether the nodes of every comparison of the condition test variables in this order. Equal
     /// functions are then equal nodes.
     pub(crate) is_total: bool,
+    /// For each column, in orders after the first, the columns that it is compared with, of which
+    /// it is the left one. They decide between single bits in columns of the last level.
+    right_of: [u64; 64],
+    /// The number of each variable's column.
+    columns: Vec<u8>,
+    /// Whether bits of one place in columns of the last level are else tested in this order,
+    /// whatever the nodes of a product have.
+    pub(crate) is_fixed: bool,
 }
 
 impl VariableOrder {
-    /// Returns the order under a condition.
-    pub(crate) fn new(alloc: Global, schema: &Schema, cond: &Cond) -> Result<Self, AllocError> {
+    /// Returns the order of this number, from 0, under a condition. If no one order fits all
+    /// comparisons of columns, each of some has the columns of the last level in another sequence.
+    pub(crate) fn new(
+        alloc: Global,
+        schema: &Schema,
+        cond: &Cond,
+        number: u8,
+    ) -> Result<Self, AllocError> {
         let pairs = Vec::new(alloc);
         let mut reader = PairReader { schema, pairs };
         let mut sequence = reader.sequence_of(alloc, cond)?;
@@ -40,19 +54,32 @@ impl VariableOrder {
         }
         let mut tops = tops_of(&sequence.columns);
         let is_total = (0..64).any(|_| !arrange(&mut tops, &reader.pairs));
-        let mut positions = Vec::new(alloc);
-        for (number, column) in schema.columns.iter().enumerate() {
-            let width = schema.width(number);
+        if !is_total && number > 0 {
+            rearrange(&mut tops, (number - 1) / 2);
+        }
+        let mut right_of = [0u64; 64];
+        if number > 0 {
+            for (left, right) in &reader.pairs {
+                right_of[usize::from(*left % 64)] |= 1 << (right % 64);
+            }
+        }
+        let (mut positions, mut columns) = (Vec::new(alloc), Vec::new(alloc));
+        for (column, found) in schema.columns.iter().enumerate() {
+            let width = schema.width(column);
             for place in 0..=64u8 {
-                if u32::from(place) > 64 - width || place == 0 && column.nullable {
-                    let top = tops[number % 64];
+                if u32::from(place) > 64 - width || place == 0 && found.nullable {
+                    let top = tops[column % 64];
                     positions.push(Position { place, ..top })?;
+                    columns.push((column % 64) as u8)?;
                 }
             }
         }
         Ok(VariableOrder {
             positions,
             is_total,
+            right_of,
+            columns,
+            is_fixed: number % 2 == 1,
         })
     }
 
@@ -63,7 +90,19 @@ impl VariableOrder {
         let x = self.positions.get(a as usize)?;
         let y = self.positions.get(b as usize)?;
         let is_open = (x.group, x.place, x.level) == (y.group, y.place, LAST_LEVEL);
-        Some((y < x, is_open && x.place > 0 && y.level == LAST_LEVEL))
+        Some((y < x, is_open && x.place > 0))
+    }
+}
+
+impl VariableOrder {
+    /// Returns whether the first of two variables is of the right one of two compared columns, if
+    /// all comparisons of them agree on that.
+    pub(crate) fn is_right(&self, a: u64, b: u64) -> Option<bool> {
+        let x = self.columns.get(a as usize)? % 64;
+        let y = self.columns.get(b as usize)? % 64;
+        let is_left = self.right_of[usize::from(x)] >> y & 1 == 1;
+        let is_right = self.right_of[usize::from(y)] >> x & 1 == 1;
+        (is_left != is_right).then_some(is_right)
     }
 }
 
@@ -94,6 +133,23 @@ fn arrange(tops: &mut [Position; 64], pairs: &[(u8, u8)]) -> bool {
         tops[right].level = above.max(y.level);
     }
     has_changed
+}
+
+/// Gives the columns of the last level another sequence: it begins so many places further on, and
+/// every other number has it turned round.
+fn rearrange(tops: &mut [Position; 64], number: u8) {
+    let count = tops.iter().filter(|top| top.level == LAST_LEVEL).count() as u8;
+    let mut place = number / 2;
+    for top in tops.iter_mut() {
+        if top.level == LAST_LEVEL {
+            place = place.wrapping_add(1) % count.max(1);
+            top.column = if number % 2 == 0 {
+                place
+            } else {
+                63 - place % 64
+            };
+        }
+    }
 }
 
 /// Some columns, the one that is tested first at the front, and how many bits are compared with

@@ -51,10 +51,10 @@ impl Facts<'_> {
         for _ in 0..4 * u64::from(MAX_PRODUCTS) {
             match self.waiting.pop() {
                 Some(last) => made = self.go_on(last, made)?,
-                None => return made.ok_or(Unproved::Limit),
+                None => return made.ok_or(self.products.passed()),
             }
         }
-        Err(Unproved::Limit)
+        Err(self.products.passed())
     }
 
     /// Returns the row of a question if it is known or a shortcut; else the question waits.
@@ -110,7 +110,8 @@ impl Facts<'_> {
     }
 
     /// Returns the first variable that one of two nodes tests. Where comparisons have two bits in
-    /// opposite orders, it is that of the node that leads to the other's variable, if one does.
+    /// opposite orders, it is that of the node that leads to the other's variable, if one does. In
+    /// orders after the first, it is that of the left column, if both nodes are a bit.
     fn first_variable(&self, asked: Question) -> Option<u64> {
         let (a, b) = match (self.nodes.get(asked.a), self.nodes.get(asked.b)) {
             (Some(a), Some(b)) => (a, b),
@@ -118,7 +119,11 @@ impl Facts<'_> {
         };
         let (mut is_later, is_open) = self.order.is_later(a.v, b.v)?;
         if is_open {
-            is_later = self.leads(b, a) && (is_later || !self.leads(a, b));
+            is_later = match self.order.is_right(a.v, b.v) {
+                Some(is_right) if a.is_bit() && b.is_bit() => is_right,
+                _ if self.order.is_fixed => is_later,
+                _ => self.leads(b, a) && (is_later || !self.leads(a, b)),
+            };
         }
         Some(if is_later { b.v } else { a.v })
     }

@@ -37,8 +37,49 @@ pub fn prove<'a>(
         length certificate.products ≤ min rows most_products) }
     ensures rules { IfOk result (λ _. IsTrue (has_rules schema.now.columns.items cond.now)) }
 {
-    Prover::new(alloc, schema, cond, rows, u32::MAX)?.certify(schema, program, rows)
+    let prover = Prover::new(alloc, schema, cond, rows, u32::MAX)?;
+    let orders = if prover.facts.order.is_total {
+        1
+    } else {
+        ORDERS
+    };
+    let unproved = match prover.certify(schema, program, rows) {
+        Ok(certificate) => return Ok(certificate),
+        Err(unproved) => unproved,
+    };
+    for order in 1..orders {
+        if !matches!(&unproved, Unproved::Unordered | Unproved::Unknown { .. }) {
+            break;
+        }
+        let other = prove_in_order(alloc, schema, cond, program, rows, order);
+        if other.is_ok() {
+            return other;
+        }
+    }
+    Err(unproved)
 }
+
+/// Finds a certificate as [`prove`] does, with the order of variables of this number.
+fn prove_in_order<'a>(
+    alloc: Global,
+    schema: &'a Schema,
+    cond: &Cond,
+    program: &Program,
+    rows: u32,
+    order: u8,
+) -> Result<Certificate<'a>, Unproved>
+    ensures columns { IfOk result (λ certificate.
+        IsTrue (has_columns schema.now.columns.items (certificate_fields certificate))) }
+    ensures limit { IfOk result (λ certificate.
+        length certificate.products ≤ min rows most_products) }
+    ensures rules { IfOk result (λ _. IsTrue (has_rules schema.now.columns.items cond.now)) }
+{
+    Prover::in_order(alloc, schema, cond, rows, u32::MAX, order)?.certify(schema, program, rows)
+}
+
+/// So many orders of variables are tried where no one order fits all comparisons of columns: those
+/// of three columns, twice each.
+const ORDERS: u8 = 13;
 
 /// The proof of a program, begun with its condition.
 #[derive(Drop)]
@@ -66,8 +107,24 @@ impl<'a> Prover<'a> {
         ensures rows { IfOk result (λ prover. row_count prover ≤ min rows most_products) }
         ensures rules { IfOk result (λ _. IsTrue (has_rules schema.now.columns.items cond.now)) }
     {
+        Self::in_order(alloc, schema, cond, rows, forecast_from, 0)
+    }
+
+    /// Writes the lines of a condition as [`new`](Self::new) does, with the order of variables of
+    /// this number.
+    fn in_order(
+        alloc: Global,
+        schema: &'a Schema,
+        cond: &Cond,
+        rows: u32,
+        forecast_from: u32,
+        order: u8,
+    ) -> Result<Self, Unproved>
+        ensures rows { IfOk result (λ prover. row_count prover ≤ min rows most_products) }
+        ensures rules { IfOk result (λ _. IsTrue (has_rules schema.now.columns.items cond.now)) }
+    {
         let mut prover = Prover {
-            facts: Facts::new(alloc, schema, cond, rows)?,
+            facts: Facts::new(alloc, schema, cond, rows, order)?,
             lines: Body::new(alloc),
             wanted: 0,
             forecast_from,

@@ -5,12 +5,24 @@ use bw_model::Row;
 use bw_program::Register;
 use std::alloc::{AllocError, AllocFailed};
 
+/// What a certificate has at most so many of.
+#[derive(Clone, Copy, Debug, PartialEq, Eq)]
+pub enum Counted {
+    Nodes,
+    Chains,
+    Rows,
+}
+
 /// Why no certificate is found. Instructions are numbered from 0; the number after the last is the
 /// end, which reads the result.
 #[derive(Drop)]
 pub enum Unproved {
-    /// A limit of certificates, or the budget of product rows, would be passed.
-    Limit,
+    /// A limit of certificates, or the budget of product rows, would be passed: there may be at
+    /// most so many of these.
+    Limit {
+        counted: Counted,
+        most: u32,
+    },
     /// An instruction reads a register before one writes it.
     Unwritten {
         instruction: usize,
@@ -31,8 +43,13 @@ pub enum Unproved {
         row: Row,
     },
     /// The program is right on every row that the schema admits, but not on every bit pattern,
-    /// which a certificate speaks of.
-    OnlyUnadmitted,
+    /// which a certificate speaks of. It is wrong on one in which a column has these bits, which no
+    /// row has.
+    OnlyUnadmitted {
+        column: usize,
+        is_null: bool,
+        code: u64,
+    },
     /// The result can't be compared with the condition, since no one order of variables fits all of
     /// its comparisons of columns.
     Unordered,

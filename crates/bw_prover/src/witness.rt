@@ -20,8 +20,25 @@ impl Facts<'_> {
         }
         match self.row_of(node)? {
             Some(row) => Ok(Unproved::Differs { row }),
-            None => Ok(Unproved::OnlyUnadmitted),
+            None => self.unadmitted(node),
         }
+    }
+
+    /// Returns that a program is wrong on bits alone that no row has, given a node that is 1 on no
+    /// row, and which isn't 0: the first column that has such bits where it is 1.
+    fn unadmitted(&self, node: u64) -> Result<Unproved, Unproved> {
+        let codes = codes_of_bits(self.alloc, self.schema, &self.path_to_one(node)?)?;
+        for (number, (column, stored)) in self.schema.columns.iter().zip(&codes).enumerate() {
+            let (is_null, code) = *stored;
+            if is_null && code > 0 || code > column.hi.abs_diff(column.lo) {
+                return Ok(Unproved::OnlyUnadmitted {
+                    column: number,
+                    is_null,
+                    code,
+                });
+            }
+        }
+        Err(Unproved::NoRule)
     }
 
     /// Returns a row on which a register differs by a skip, and one on which the skip isn't taken,
@@ -110,10 +127,14 @@ impl Facts<'_> {
     }
 }
 
-/// Returns the row of bits by variable: of each column in turn the null bit, if it is nullable, and
-/// then those of its code from the top.
-fn row_of_bits(alloc: Global, schema: &Schema, bits: &[bool]) -> Result<Row, Unproved> {
-    let mut values = Vec::new(alloc);
+/// Returns for each column whether bits by variable have it null, and its code: of each column in
+/// turn they are the null bit, if it is nullable, and then those of its code from the top.
+fn codes_of_bits(
+    alloc: Global,
+    schema: &Schema,
+    bits: &[bool],
+) -> Result<Vec<(bool, u64)>, AllocError> {
+    let mut codes = Vec::new(alloc);
     let mut bits = bits.iter().copied();
     for (number, column) in schema.columns.iter().enumerate() {
         let is_null = column.nullable && bits.next().unwrap_or(false);
@@ -121,9 +142,19 @@ fn row_of_bits(alloc: Global, schema: &Schema, bits: &[bool]) -> Result<Row, Unp
         for _ in 0..schema.width(number) {
             code = code << 1 | u64::from(bits.next().unwrap_or(false));
         }
-        let value = i128::from(column.lo) + i128::from(code);
+        codes.push((is_null, code))?;
+    }
+    Ok(codes)
+}
+
+/// Returns the row of bits by variable.
+fn row_of_bits(alloc: Global, schema: &Schema, bits: &[bool]) -> Result<Row, Unproved> {
+    let mut values = Vec::new(alloc);
+    let codes = codes_of_bits(alloc, schema, bits)?;
+    for (column, (is_null, code)) in schema.columns.iter().zip(&codes) {
+        let value = i128::from(column.lo) + i128::from(*code);
         let value = i64::try_from(value).unwrap_or(column.hi);
-        values.push((!is_null).then_some(value))?;
+        values.push((!*is_null).then_some(value))?;
     }
     Ok(Row { values })
 }
