@@ -359,13 +359,15 @@ module _ (known : Option (List ℕ)) (columnar : ColumnarTable) (read : ℕ → 
     all_made : Made (column_count columnar)
     all_made = made (column_count columnar) (omega arith)
 
-    abbrev pub whole_table : ColumnarTable
+    pub whole_table : ColumnarTable
     whole_table = table_of all_made.kept all_made.stored
 
     pub whole_same : SameHeader columnar whole_table
+    unfolding whole_table
     whole_same = record { layout = refl; schema = refl; rows = refl; segments = refl; head = refl }
 
     pub whole_has : HasColumns known whole_table read (column_count whole_table)
+    unfolding whole_table
     whole_has = all_made.has
 
     block_is : (number column : ℕ) → number < segments → column < column_count columnar → blocks number column ≡ block_numbered all_made.kept.items number column
@@ -381,7 +383,7 @@ module _ (known : Option (List ℕ)) (columnar : ColumnarTable) (read : ℕ → 
         ∙ ap (λ n. flat_map (block_numbered all_made.kept.items number) (range_with_len 0 n)) (sym all_made.stored.blocks.all)
 
     pub whole_groups : map (group_spelled columnar blocks) (range_with_len 0 segments) ≡ groups_in (table_in whole_table)
-    unfolding stored_groups
+    unfolding stored_groups whole_table
     whole_groups =
         map_alike (group_spelled columnar blocks) (stored_group whole.layout columns whole.rows all_made.kept.items) 0 segments
         (λ number from to. ap (rows_spelled whole.layout columns (rows_numbered whole.rows number)) (segment_is number (omega (arith, to))))

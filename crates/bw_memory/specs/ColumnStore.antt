@@ -75,7 +75,7 @@ HasColumnFault (in_memory whole) column fault = ⊥
 HasColumnFault (in_file known header) column fault = (columnar : ColumnarTable)
     × (header_of columnar ≡ header) × IsColumnFault known columnar column fault
 
--- the number of columns
+-- the columns
 abbrev pub columns_of : ColumnSource → List Column
 columns_of (in_memory whole) = (schema_of whole).columns.items
 columns_of (in_file known header) = header.schema.columns.items

@@ -2,7 +2,6 @@
 use Rattle.std.specs.Prelude.{◌≡◌, ◌+◌, ◌<◌, ◌≤◌, ℕ, Bool, List, [], Option, IfSome, None, false, true}
 use Rattle.std.specs.Prelude.{length, map}
 use Rattle.std.specs.List.{flat_map, range_with_len}
-use Rattle.bw_model.specs.declared.column.Column.{Column}
 use Rattle.bw_model.specs.Row.{Value}
 use Rattle.bw_segment.specs.Packing.{block_bytes}
 use Rattle.bw_file.specs.Blocks.{block_fault, block_size, form_of, rows_spelled}

@@ -17,7 +17,8 @@ pub trait ColumnStore {
     /// Where its columns come from.
     ghost source: { Self → ColumnSource };
 
-    /// Returns the table. Its rows may have any values in a column that wasn't read.
+    /// Returns the table. In a column that wasn't read each row has the values of the source, or the
+    /// column's minimum.
     fn table(&self) -> &MemoryTable
         ensures table { result.now ≡ table self.now }
         ensures of { IsTableOf (source self.now) (table self.now) };

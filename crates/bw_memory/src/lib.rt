@@ -10,10 +10,12 @@
 //!
 //! A [`ColumnarTable`] is a table of a file by columns: [`ColumnarTable::open`] reads the header, and
 //! [`ColumnarTable::read_column`] one column. A column that wasn't read takes the memory of one
-//! block, which each segment has, and has its minimum in each row.
+//! block, which each segment has, and has its minimum in each row. A [`SegmentWindow`] has some
+//! segments of such a file at a time, and the memory of no more.
 //!
 //! Read `specs/MemoryTable.antt` first, then `table.rt` and `reading.rt`; for files by columns
-//! `specs/Columnar.antt`, then `opening.rt` and `columns.rt`.
+//! `specs/Columnar.antt`, then `opening.rt` and `columns.rt`, and `specs/Windows.antt` with
+//! `windows.rt`.
 //!
 //! ```
 //! let table = MemoryTable::read(rt.alloc(), &mut source)?;

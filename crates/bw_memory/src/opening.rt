@@ -1,5 +1,5 @@
 //! Opens a file by columns, and reads its columns.
-ghost use Rattle.std.specs.Prelude.{◌≡◌, ◌⊎◌, ◌+◌, ◌*◌, ◌/◌, ◌-◌, ◌^◌, ◌<◌, ◌≤◌, ◌≢◌, ℕ, length, take};
+ghost use Rattle.std.specs.Prelude.{◌≡◌, ◌+◌, ◌*◌, ◌/◌, ◌-◌, ◌^◌, ◌<◌, length, take};
 ghost use Rattle.std.specs.Prelude.{true, false, IfErr, IfOk, IfSome, OnOk, OnErr};
 ghost use Rattle.bw_io.specs.Source.{failed_by, is_input_fault};
 ghost use Rattle.bw_file.specs.declared.order.FileOrder.TheVariants.{ByColumns};
@@ -12,8 +12,7 @@ ghost use Rattle.bw_memory.specs.Columnar.{IsOpened, IsOpenFault, SameHeader, co
 ghost use Rattle.bw_memory.specs.Columnar.{IsReadFault, columnar_size};
 ghost use Rattle.bw_memory.specs.Columnar.{is_wanted, place_in, table_in};
 ghost use Rattle.bw_memory.specs.Columns.{IsBlank};
-ghost use Rattle.bw_memory.specs.Filling.{IsFillFault};
-ghost use Rattle.bw_memory.specs.MemoryTable.{layout_of, schema_of, segments_in};
+ghost use Rattle.bw_memory.specs.MemoryTable.{schema_of};
 
 use crate::columnar::ColumnarTable;
 use crate::filling::fill_at;

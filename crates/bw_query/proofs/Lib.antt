@@ -4,6 +4,7 @@ pub mod GroupLemmas
 pub mod ItemLemmas
 pub mod MemoryExits
 pub mod NamingLemmas
+pub mod PartLemmas
 pub mod ScanLemmas
 pub mod StoreLemmas
 pub mod TableExits

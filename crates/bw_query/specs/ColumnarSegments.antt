@@ -1,5 +1,5 @@
 -- The segments of a file by columns, of which some columns are read, as far as they came.
-use Rattle.std.specs.Prelude.{◌≡◌, ◌+◌, ◌-◌, ◌*◌, ◌^◌, ◌<◌, ℕ, Bool, List, Option, Err, min}
+use Rattle.std.specs.Prelude.{◌≡◌, ◌+◌, ◌-◌, ◌*◌, ◌^◌, ◌<◌, ℕ, Bool, List, Option, min}
 use Rattle.bw_model.specs.declared.fault.Fault.{Fault}
 use Rattle.bw_model.specs.declared.query.Query.{Query}
 use Rattle.bw_model.specs.Groups.{group_size}
@@ -28,20 +28,21 @@ pub record HasRead (old now : AccessState) : Type 0 where
 
 -- These groups of rows came: those of the segments before the window, and of its first ones, this
 -- many. The window has the file's segments.
-pub record HasGivenParts (old : AccessState) (columnar : ColumnarTable) (wanted : List Bool)
-    (groups : List (List (List Value))) (now : AccessState) (window : SegmentWindow) (next : ℕ) : Type
-    0 where
+pub record HasGivenParts (old : AccessState) (file : ColumnarTable) (flags : List Bool)
+    (came : List (List (List Value))) (now : AccessState) (file_now : ColumnarTable)
+    (flags_now : List Bool) (part : SegmentWindow) (at : ℕ) : Type 0 where
   pub read : HasRead old now
   pub fits : old.failures < 2 ^ 64 - 1
-  pub window : IsWindow old.known columnar (is_wanted wanted) window
-  pub groups : HasGroups old.known columnar (is_wanted wanted) (first_in window + next) groups
+  pub columnar : file_now ≡ file
+  pub wanted : flags_now ≡ flags
+  pub window : IsWindow old.known file (is_wanted flags) part
+  pub groups : HasGroups old.known file (is_wanted flags) (first_in part + at) came
 
 -- these groups of rows came, and are those of all segments
-pub record HasGivenAllParts (old : AccessState) (columnar : ColumnarTable) (wanted : List Bool)
-    (groups : List (List (List Value))) (now : AccessState) : Type 0 where
+pub record HasGivenAllParts (old : AccessState) (file : ColumnarTable) (flags : List Bool)
+    (came : List (List (List Value))) (now : AccessState) : Type 0 where
   pub read : HasRead old now
-  pub groups : HasGroups old.known columnar (is_wanted wanted) (segments_in (table_in columnar))
-      groups
+  pub groups : HasGroups old.known file (is_wanted flags) (segments_in (table_in file)) came
 
 -- a read failed, or not, as the error says
 pub record HasFailedPart (old now : AccessState) (fault : Fault) : Type 0 where

@@ -42,9 +42,9 @@ memory_fails = refl
 no_part_failed : (old now : AccessState) → HasRead old now → HasFailedPart old now no_memory
 no_part_failed old now read = record { known = read.known; failures = omega (arith, read.failures) }
 
-pub parts_fail_among : {old now : AccessState} {columnar : ColumnarTable} {wanted : List Bool} {groups : List (List (List Value))} {window : SegmentWindow} {next : ℕ} {P Q : Type 0}
-    → P × Q × HasGivenParts old columnar wanted groups now window next → HasFailedPart old now no_memory
-parts_fail_among gave = no_part_failed _ _ gave.2.read
+pub parts_fail_among : {old now : AccessState} {columnar columnar_now : ColumnarTable} {wanted wanted_now : List Bool} {groups : List (List (List Value))} {window : SegmentWindow} {next : ℕ}
+    → HasGivenParts old columnar wanted groups now columnar_now wanted_now window next → HasFailedPart old now no_memory
+parts_fail_among given = no_part_failed _ _ given.read
 
 pub parts_fail_after : {old now : AccessState} {columnar : ColumnarTable} {wanted : List Bool} {groups : List (List (List Value))} → HasGivenAllParts old columnar wanted groups now
     → HasFailedPart old now no_memory

@@ -1,9 +1,8 @@
 //! The segments of a file by columns, some of which are in memory at a time.
 ghost use Rattle.std.proofs.Props.{props};
-ghost use Rattle.std.specs.Prelude.{◌≡◌, ◌+◌, ◌-◌, ◌^◌, ◌<◌, ◌≤◌, ℕ, List, IfErr, IfOk, IfSome, IsTrue};
+ghost use Rattle.std.specs.Prelude.{◌≡◌, ◌+◌, ◌-◌, ◌^◌, ◌<◌, ◌≤◌, IfErr, IfOk, IfSome, IsTrue};
 ghost use Rattle.std.specs.Prelude.{false, length, true, vec_len};
 ghost use Rattle.std.specs.List.{list_all};
-ghost use Rattle.bw_model.specs.Row.{Value};
 ghost use Rattle.bw_model.specs.Total.{item_within};
 ghost use Rattle.bw_sql.specs.Items.{AreOfOneKind};
 ghost use Rattle.bw_io.specs.Sink.{is_write_fault};
@@ -11,8 +10,9 @@ ghost use Rattle.bw_io.specs.Source.{failed_by};
 ghost use Rattle.bw_file.specs.Blocks.{form_of};
 ghost use Rattle.bw_file.specs.TableReading.{IsTableFault};
 ghost use Rattle.bw_memory.specs.Columnar.{column_count, is_wanted, table_in};
-ghost use Rattle.bw_memory.specs.MemoryTable.{layout_of, placement_of, schema_of, segments_in};
-ghost use Rattle.bw_memory.specs.Windows.{HasGroups, IsWindow, end_of, first_in, window_in};
+ghost use Rattle.bw_memory.specs.MemoryTable.{layout_of, placement_of, rows_of, schema_of};
+ghost use Rattle.bw_memory.specs.MemoryTable.{segments_in};
+ghost use Rattle.bw_memory.specs.Windows.{HasGroups, IsWindow, first_in, window_in};
 ghost use Rattle.bw_query.specs.ColumnarSegments.{HasFailedPart, HasGivenAllParts, HasGivenParts};
 ghost use Rattle.bw_query.specs.ColumnarSegments.{rows_before};
 ghost use Rattle.bw_query.specs.Scan.{IsFor};
@@ -55,9 +55,10 @@ struct ColumnarSegments<'a, L: CodeLayout> {
 }
 
 impl<'a, L: CodeLayout> ColumnarSegments<'a, L> {
-    /// Reads the next segments of the file, after those of the window. Returns whether there were
-    /// any. Errors: those of [`SegmentWindow::read_next`].
-    fn pass<D: RandomAccess>(&mut self, device: &mut D) -> Result<bool, Fault>
+    /// Returns whether there is a next segment. Reads the next ones of the file, if all of the window
+    /// have come. Errors: those of [`SegmentWindow::read_next`].
+    #[inline(always)]
+    fn has_next<D: RandomAccess>(&mut self, device: &mut D) -> Result<bool, Fault>
         requires counter_fits { (D.state device.old).failures < 2 ^ 64 - 1 }
         requires window { IsWindow (D.state device.old).known self.old.columnar.now
             (is_wanted self.old.wanted.now) self.old.window }
@@ -65,10 +66,11 @@ impl<'a, L: CodeLayout> ColumnarSegments<'a, L> {
             self.old.columnar.now (is_wanted self.old.wanted.now) self.new.window) }
         ensures some { IfOk result (λ came. IsTrue came
             → self.new.next < segments_in (window_in self.new.window)) }
-        ensures next { IfOk result (λ came. IsTrue came
-            → first_in self.new.window + self.new.next ≡ end_of self.old.window) }
+        ensures next { IfOk result (λ _. first_in self.new.window + self.new.next
+            ≡ first_in self.old.window + self.old.next) }
         ensures ended { IfOk result (λ came. came ≡ false
-            → end_of self.old.window ≡ segments_in (table_in self.old.columnar.now)) }
+            → first_in self.old.window + self.old.next
+            ≡ segments_in (table_in self.old.columnar.now)) }
         ensures columnar { self.new.columnar.now ≡ self.old.columnar.now }
         ensures wanted { self.new.wanted.now ≡ self.old.wanted.now }
         ensures fault { IfErr result IsTableFault }
@@ -76,6 +78,9 @@ impl<'a, L: CodeLayout> ColumnarSegments<'a, L> {
         ensures count { (D.state device.new).failures
             ≡ (D.state device.old).failures + failed_by result }
     {
+        if self.next < self.window.table().segments() {
+            return Ok(true);
+        }
         if self.window.end() == self.columnar.table().segments() {
             return Ok(false);
         }
@@ -89,7 +94,7 @@ impl<'a, L: CodeLayout> ColumnarSegments<'a, L> {
 impl<'a, D: RandomAccess, L: CodeLayout> Segments<D> for ColumnarSegments<'a, L> {
     ghost table = { λ segments. schema_of (table_in segments.columnar.now) };
 
-    ghost stated = { λ segments. (table_in segments.columnar.now).rows };
+    ghost stated = { λ segments. length (rows_of (table_in segments.columnar.now)) };
 
     ghost given = { λ segments. rows_before segments.columnar.now
         (first_in segments.window + segments.next) };
@@ -98,9 +103,8 @@ impl<'a, D: RandomAccess, L: CodeLayout> Segments<D> for ColumnarSegments<'a, L>
         - (first_in segments.window + segments.next) };
 
     ghost gave = { λ start from groups segments device.
-        (segments.columnar.now ≡ start.columnar.now) × (segments.wanted.now ≡ start.wanted.now)
-        × HasGivenParts (D.state from) start.columnar.now start.wanted.now groups
-        (D.state device) segments.window segments.next };
+        HasGivenParts (D.state from) start.columnar.now start.wanted.now groups (D.state device)
+        segments.columnar.now segments.wanted.now segments.window segments.next };
 
     ghost ended = { λ start from groups segments device.
         HasGivenAllParts (D.state from) start.columnar.now start.wanted.now groups
@@ -124,7 +128,7 @@ impl<'a, D: RandomAccess, L: CodeLayout> Segments<D> for ColumnarSegments<'a, L>
         registers: &mut Registers,
         consumer: &mut C,
     ) -> Result<bool, Fault> {
-        if self.next == self.window.table().segments() && !self.pass(device)? {
+        if !self.has_next(device)? {
             return Ok(false);
         }
         let segment = next_segment::<L>(self.window.table(), &mut self.placement, self.next)?;

@@ -1,5 +1,5 @@
 -- Each exit, by the contracts of its calls.
-use Rattle.std.proofs.Common.{List, ℕ, Option, Ok, Err, ap, inl, refl, subst, sym, false, ◌≡◌}
+use Rattle.std.proofs.Common.{List, ℕ, Option, Ok, Err, inl, subst, sym, false, ◌≡◌}
 use Rattle.bw_model.proofs.ErrLemmas.{err_passed_on}
 use Rattle.bw_model.specs.declared.schema.Schema.{Schema}
 use Rattle.bw_io.specs.Source.{is_input_fault}
@@ -49,39 +49,41 @@ returns-in_err-found-clause-answer g c =
 pub returns-in_err-write_whole-clause-answer : goal.returns-in_err-write_whole-clause-answer
 returns-in_err-write_whole-clause-answer g c =
     let old = c.in_ok-columnar.columnar in
-    let new = c.text_by_columns.new.columnar in
+    let over = c.in_ok-found.ensures.text in
+    let new = over.table in
     let prepared = c.in_ok-prepared.prepared in
     let found = c.in_ok-found.found in
     let file = given_file c.args.program in
     let asks = by_statement file c.args.sql.now in
     let asked = rw c.table.ensures at (rw c.schema.ensures at c.in_ok-prepared.ensures.asked) in
     let chosen = rw c.table.ensures at (rw c.schema.ensures at c.in_ok-prepared.ensures.chosen) in
-    let columns = subst (λ (known : Option (List ℕ)). HasColumns known new (is_read (program_of prepared.scan) prepared.query) (column_count new)) c.in_ok-columnar.ensures.same c.in_ok-found.ensures.read in
+    let columns = subst (λ (known : Option (List ℕ)). HasColumns known new (is_read (program_of prepared.scan) prepared.query) (column_count new)) c.in_ok-columnar.ensures.same over.columns in
     let goes = rw c.deref.ensures.value at c.in_err-write_whole.ensures in
     rw (err_passed_on _ c.from_residual-in_err-write_whole.ensures.1) (
       Ok found.text.items,
-      text_found asks file _ old new prepared.query prepared.scan c.in_ok-found.ensures.header c.in_ok-columnar.ensures.opened asked chosen found.text.items found.scanned columns c.in_ok-found.ensures.text,
+      text_found asks file _ old new prepared.query prepared.scan over.same c.in_ok-columnar.ensures.opened asked chosen found.text.items found.scanned columns over.is,
       went Served (g.K.Sink.state c.args.sink.now) (g.K.Sink.state c.write_whole.new.sink) found.text.items (Err c.in_err-write_whole.field-0.0) goes,
     )
 
 pub returns-clause-served : goal.returns-clause-served
 returns-clause-served g c =
     let old = c.in_ok-columnar.columnar in
-    let new = c.text_by_columns.new.columnar in
+    let over = c.in_ok-found.ensures.text in
+    let new = over.table in
     let prepared = c.in_ok-prepared.prepared in
     let found = c.in_ok-found.found in
     let file = given_file c.args.program in
     let asks = by_statement file c.args.sql.now in
     let asked = rw c.table.ensures at (rw c.schema.ensures at c.in_ok-prepared.ensures.asked) in
     let chosen = rw c.table.ensures at (rw c.schema.ensures at c.in_ok-prepared.ensures.chosen) in
-    let columns = subst (λ (known : Option (List ℕ)). HasColumns known new (is_read (program_of prepared.scan) prepared.query) (column_count new)) c.in_ok-columnar.ensures.same c.in_ok-found.ensures.read in
+    let columns = subst (λ (known : Option (List ℕ)). HasColumns known new (is_read (program_of prepared.scan) prepared.query) (column_count new)) c.in_ok-columnar.ensures.same over.columns in
     let goes = rw c.deref.ensures.value at c.in_ok-write_whole.ensures in
-    let same = c.in_ok-found.ensures.header in
-    let counts = scan_counts (table_in new) prepared.query prepared.scan found.text.items found.scanned c.in_ok-found.ensures.text in
+    let same = over.same in
+    let counts = scan_counts (table_in new) prepared.query prepared.scan found.text.items found.scanned over.is in
     let chosen_new = subst (λ (schema : Schema). IsChosen file schema.columns.items prepared.query.cond prepared.scan) (sym same.schema) chosen in
     rw c.report_of.ensures (
       found.text.items,
-      text_found asks file _ old new prepared.query prepared.scan same c.in_ok-columnar.ensures.opened asked chosen found.text.items found.scanned columns c.in_ok-found.ensures.text,
+      text_found asks file _ old new prepared.query prepared.scan same c.in_ok-columnar.ensures.opened asked chosen found.text.items found.scanned columns over.is,
       goes.0,
       serves file (schema_of (table_in new)) prepared.query (rows_of (table_in new)) prepared.scan found.scanned chosen_new counts,
     )
@@ -89,16 +91,17 @@ returns-clause-served g c =
 pub returns-clause-answer : goal.returns-clause-answer
 returns-clause-answer g c =
     let old = c.in_ok-columnar.columnar in
-    let new = c.text_by_columns.new.columnar in
+    let over = c.in_ok-found.ensures.text in
+    let new = over.table in
     let prepared = c.in_ok-prepared.prepared in
     let found = c.in_ok-found.found in
     let file = given_file c.args.program in
     let asks = by_statement file c.args.sql.now in
     let asked = rw c.table.ensures at (rw c.schema.ensures at c.in_ok-prepared.ensures.asked) in
     let chosen = rw c.table.ensures at (rw c.schema.ensures at c.in_ok-prepared.ensures.chosen) in
-    let columns = subst (λ (known : Option (List ℕ)). HasColumns known new (is_read (program_of prepared.scan) prepared.query) (column_count new)) c.in_ok-columnar.ensures.same c.in_ok-found.ensures.read in
+    let columns = subst (λ (known : Option (List ℕ)). HasColumns known new (is_read (program_of prepared.scan) prepared.query) (column_count new)) c.in_ok-columnar.ensures.same over.columns in
     let goes = rw c.deref.ensures.value at c.in_ok-write_whole.ensures in (
       Ok found.text.items,
-      text_found asks file _ old new prepared.query prepared.scan c.in_ok-found.ensures.header c.in_ok-columnar.ensures.opened asked chosen found.text.items found.scanned columns c.in_ok-found.ensures.text,
+      text_found asks file _ old new prepared.query prepared.scan over.same c.in_ok-columnar.ensures.opened asked chosen found.text.items found.scanned columns over.is,
       went Served _ _ found.text.items (Ok c.report_of.result) goes,
     )

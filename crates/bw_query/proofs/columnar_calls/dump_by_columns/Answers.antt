@@ -1,9 +1,9 @@
 -- Each exit, by the contracts of its calls.
-use Rattle.std.proofs.Common.{List, ℕ, Option, None, Ok, Err, ap, inl, refl, subst, false, ◌≡◌}
+use Rattle.std.proofs.Common.{List, ℕ, Option, None, Ok, Err, ap, inl, subst, false, ◌≡◌}
 use Rattle.bw_model.proofs.ErrLemmas.{err_passed_on}
 use Rattle.bw_model.specs.Fault.{is_memory}
 use Rattle.bw_io.specs.Source.{is_input_fault}
-use Rattle.bw_memory.specs.Columnar.{HasColumns, HasDamage, column_count, table_in}
+use Rattle.bw_memory.specs.Columnar.{HasColumns, HasDamage, column_count}
 use Rattle.bw_query.specs.NamedColumns.{is_read}
 use Rattle.bw_query.specs.TableAnswer.{by_dump}
 use Rattle.bw_query.specs.declared.scan.Scan.TheVariants.{Rows}
@@ -39,13 +39,14 @@ returns-in_err-found-clause-answer g c =
 pub returns-clause-answer : goal.returns-clause-answer
 returns-clause-answer g c =
     let old = c.in_ok-columnar.columnar in
-    let new = c.text_by_columns.new.columnar in
+    let over = c.in_ok-found.ensures.text in
+    let new = over.table in
     let query = c.in_ok-query.query in
     let found = c.in_ok-found.found in
     let every = rw c.table.ensures at (rw c.schema.ensures at c.in_ok-query.ensures.every) in
-    let columns = subst (λ (known : Option (List ℕ)). HasColumns known new (is_read None query) (column_count new)) c.in_ok-columnar.ensures.same c.in_ok-found.ensures.read in
+    let columns = subst (λ (known : Option (List ℕ)). HasColumns known new (is_read None query) (column_count new)) c.in_ok-columnar.ensures.same over.columns in
     let goes = rw c.deref.ensures.value at c.write_whole.ensures in (
       Ok found.text.items,
-      text_found by_dump None _ old new query Rows c.in_ok-found.ensures.header c.in_ok-columnar.ensures.opened every tt found.text.items found.scanned columns c.in_ok-found.ensures.text,
+      text_found by_dump None _ old new query Rows over.same c.in_ok-columnar.ensures.opened every tt found.text.items found.scanned columns over.is,
       went (Unit {0}) _ _ found.text.items c.write_whole.result goes,
     )

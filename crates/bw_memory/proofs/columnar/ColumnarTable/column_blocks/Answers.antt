@@ -1,5 +1,5 @@
 -- The blocks are those of the file.
-use Rattle.std.proofs.Common.{ap, inl, subst, refl}
+use Rattle.std.proofs.Common.{refl}
 use Rattle.bw_model.proofs.ErrLemmas.{err_passed_on}
 use Rattle.bw_memory.proofs.ReadColumnLemmas.{blocks_refused, column_known}
 use Rattle.bw_memory.proofs.columnar.ColumnarTable.column_blocks.Goals as goal

@@ -1,5 +1,5 @@
 -- The next segments are the file's.
-use Rattle.std.proofs.Common.{◌∙◌, ◌+◌, ◌*◌, ◌<◌, arith, sym}
+use Rattle.std.proofs.Common.{◌+◌, arith}
 use Rattle.bw_model.specs.Groups.{group_size}
 use Rattle.bw_memory.proofs.ColumnarLemmas.{few_segments}
 use Rattle.bw_memory.proofs.WindowLemmas.{has_segment, is_part}

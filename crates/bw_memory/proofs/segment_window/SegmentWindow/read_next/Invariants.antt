@@ -1,5 +1,5 @@
 use Rattle.std.proofs.Common.{◌≡◌, ◌≤◌}
-use Rattle.bw_memory.specs.Columnar.{column_count, is_wanted}
+use Rattle.bw_memory.specs.Columnar.{is_wanted}
 use Rattle.bw_memory.specs.MemoryTable.{segments_in}
 use Rattle.bw_memory.specs.Windows.{HasPartsBefore, end_of, first_in, window_in}
 use Rattle.bw_memory.proofs.segment_window.SegmentWindow.read_next.Given as goal

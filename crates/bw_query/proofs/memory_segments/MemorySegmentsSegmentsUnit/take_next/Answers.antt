@@ -1,5 +1,5 @@
 -- The table's next segment, after those before it.
-use Rattle.std.proofs.Common.{◌∙◌, ◌*◌, ◌<◌, ◌≤◌, ℕ, ap, arith, length, refl, subst, sym}
+use Rattle.std.proofs.Common.{◌∙◌, ◌+◌, ◌*◌, ◌<◌, ◌≤◌, ℕ, ap, arith, length, refl, subst, sym}
 use Rattle.bw_model.specs.Groups.{group_size}
 use Rattle.bw_memory.specs.MemoryTable.{meaning_numbered, schema_of, segments_in}
 use Rattle.bw_memory.proofs.StoredSegmentLemmas.{length-rows, room_for}
@@ -31,23 +31,18 @@ pub returns-clause-taken : goal.returns-clause-taken
 returns-clause-taken g c = λ came.
     let self = c.args.self.now in
     let table = self.table.now in
-    let same = c.next_segment.ensures.table in
-    let next = c.in_ok-segment.ensures.next in
     let consumed = subst (λ (m : Meaning). Consumes m.columns m.rows g.C.SegmentConsumer.fits g.C.SegmentConsumer.rows g.C.SegmentConsumer.over c.args.consumer.now c.take.new.self)
     c.in_ok-segment.ensures.means c.in_ok-take.ensures.consumes in
     taken_as _ _ refl (meaning_numbered table self.next).rows _ _ _ _ _ _
-    (rows_more table _ self.next _ same next, λ start from groups gave. before_more start.table.now table _ groups self.next _ gave.0 same next gave.1) consumed
+    (rows_more table table self.next (self.next + 1) refl refl, λ start from groups gave. before_more start.table.now table table groups self.next (self.next + 1) gave.0 refl refl gave.1) consumed
 
 pub returns-clause-left : goal.returns-clause-left
 returns-clause-left g c = λ came.
     let self = c.args.self.now in
-    omega (arith, self.within, c.if-self-segments.false, c.segments.ensures, ap segments_in c.next_segment.ensures.table, c.in_ok-segment.ensures.next)
+    omega (arith, self.within, c.if-self-segments.false, c.segments.ensures)
 
 pub returns-clause-capacity : goal.returns-clause-capacity
 returns-clause-capacity g c = λ came.
-    let self = c.next_segment.new.self in
+    let self = c.args.self.now in
     let table = self.table.now in
-    omega (arith, table.within_limit, length-rows table.layout (schema_of table).columns.items table.rows self.next table.columns.items)
-
-pub returns-clause-table : goal.returns-clause-table
-returns-clause-table g c = λ came. ap schema_of c.next_segment.ensures.table
+    omega (arith, table.within_limit, length-rows table.layout (schema_of table).columns.items table.rows (self.next + 1) table.columns.items)
