@@ -1,17 +1,14 @@
 -- The segments of a file by columns, one after another.
-use Rattle.std.proofs.Common.{◌≡◌, ◌∙◌, refl, sym, ap, subst, ℕ, ◌+◌, ◌-◌, ◌<◌, ◌^◌, Bool, true, false, not, ◌||◌, List, [], ◌++◌, ◌∷◌, length, Option, Result, Ok, Err, arith}
-use Rattle.std.specs.Prelude.{IfErr, IfOk}
-use Rattle.bw_model.specs.declared.column.Column.{Column}
+use Rattle.std.proofs.Common.{◌≡◌, ◌∙◌, sym, ap, subst, ℕ, ◌+◌, ◌-◌, ◌<◌, Bool, List, [], ◌++◌, ◌∷◌, length, Option, Result, Ok, Err, arith}
+use Rattle.std.specs.Prelude.{IfOk}
 use Rattle.bw_model.specs.declared.fault.Fault.{Fault}
 use Rattle.bw_model.specs.declared.query.Query.{Query}
 use Rattle.bw_model.specs.declared.schema.Schema.{Schema}
-use Rattle.bw_model.specs.Fault.{is_memory}
 use Rattle.bw_model.specs.Groups.{group_size}
 use Rattle.bw_model.specs.Row.{Value}
 use Rattle.bw_segment.specs.ColumnBlocks.{segment_numbered}
 use Rattle.bw_segment.proofs.SoundLemmas.{length-rows_spelled}
 use Rattle.bw_io.specs.RandomAccess.{AccessState}
-use Rattle.bw_io.specs.Source.{failed_by, is_input_fault, is_read_fault}
 use Rattle.bw_file.specs.Blocks.{form_of}
 use Rattle.bw_memory.specs.declared.columnar.ColumnarTable.{ColumnarTable}
 use Rattle.bw_memory.specs.declared.segment_window.SegmentWindow.{SegmentWindow}
@@ -23,7 +20,7 @@ use Rattle.bw_memory.specs.StoredSegments.{rows_numbered}
 use Rattle.bw_memory.specs.Windows.{HasGroups, IsPart, IsWindow, first_in, window_in}
 use Rattle.bw_memory.proofs.ReadColumnsLemmas.{read_alike}
 use Rattle.bw_memory.proofs.WindowLemmas.{one_read, whole_groups, whole_has, whole_same, whole_table}
-use Rattle.bw_query.specs.ColumnarSegments.{HasFailedPart, HasGivenAllParts, HasGivenParts, IsTextByColumns, rows_before}
+use Rattle.bw_query.specs.ColumnarSegments.{HasGivenParts, IsTextByColumns, rows_before}
 use Rattle.bw_query.specs.NamedColumns.{is_read}
 use Rattle.bw_query.specs.Scan.{program_of}
 use Rattle.bw_query.specs.Segments.{IsTextOf}
@@ -33,13 +30,6 @@ use Rattle.bw_query.specs.declared.served.TableText.{TableText}
 
 module _ {old now : AccessState} {columnar columnar_now : ColumnarTable} {wanted wanted_now : List Bool} {groups : List (List (List Value))} {window : SegmentWindow} {next : ℕ}
     (given : HasGivenParts old columnar wanted groups now columnar_now wanted_now window next) where
-  -- the window, by what is known now
-  pub window_now : IsWindow now.known columnar_now (is_wanted wanted_now) window
-  window_now = rw (given.read.known, given.columnar, given.wanted) given.window
-
-  pub fits_now : now.failures < 2 ^ 64 - 1
-  fits_now = omega (arith, given.read.failures, given.fits)
-
   -- the next window was read, or not, and no group came
   pub given_still : (after : AccessState) (columnar_after : ColumnarTable) (wanted_after : List Bool) (window_after : SegmentWindow) (next_after : ℕ)
       → IsWindow now.known columnar_now (is_wanted wanted_now) window_after → first_in window_after + next_after ≡ first_in window + next → columnar_after ≡ columnar_now → wanted_after ≡ wanted_now
@@ -66,38 +56,12 @@ module _ {old now : AccessState} {columnar columnar_now : ColumnarTable} {wanted
         (one_read old.known columnar (is_wanted wanted) (first_in window) next (window_in window) groups given.window there given.groups);
   }
 
-  -- all groups came
-  pub all_given : first_in window + next ≡ segments_in (table_in columnar_now) → (after : AccessState) → after.known ≡ now.known → after.failures ≡ now.failures
-      → HasGivenAllParts old columnar wanted groups after
-  all_given ended after known failures = record {
-    read = record { known = known ∙ given.read.known; failures = failures ∙ given.read.failures };
-    groups = subst (λ n. HasGroups old.known columnar (is_wanted wanted) n groups) (ended ∙ ap (λ (c : ColumnarTable). segments_in (table_in c)) given.columnar) given.groups;
-  }
-
-  -- or there was an error
-  pub part_failed : (after : AccessState) (fault : Fault) → after.known ≡ now.known → after.failures ≡ now.failures + failed_by {T = Bool} (Err fault) → HasFailedPart old after fault
-  part_failed after fault known failures = record { known = known ∙ given.read.known; failures = omega (arith, failures, given.read.failures) }
-
 -- how many rows come with the next segment
 pub rows_by_columns : (columnar : ColumnarTable) (first next next_after : ℕ) (table : MemoryTable) → IsPart columnar first table → next < segments_in table → next_after ≡ next + 1
     → rows_before columnar (first + next_after) ≡ rows_before columnar (first + next) + length (meaning_numbered table next).rows
 unfolding group_size
 rows_by_columns columnar first next next_after table part there is =
     omega (arith, is, part.rows next there, length-rows_spelled (form_of (layout_of table)) (schema_of table).columns.items (rows_numbered table.rows next) (segment_numbered table.columns.items next))
-
--- the text over all groups, and what is known of the device then
-module _ (columns : List Column) (query : Query) (scan : Scan) (old now : AccessState) (columnar : ColumnarTable) (wanted : List Bool) where
-  abbrev Over : TableText → Type 0
-  Over found = IsTextOf columns query scan (λ groups. HasGivenAllParts old columnar wanted groups now) found.text.items found.scanned
-
-  pub text_of_parts : (result : Result TableText Fault) → IfOk result Over
-      → IfOk result (λ found. IsTextOf columns query scan (HasGroups old.known columnar (is_wanted wanted) (segments_in (table_in columnar))) found.text.items found.scanned)
-  text_of_parts (Ok found) over = record { groups = over.groups; all = over.all.groups; counts = over.counts; is = over.is }
-  text_of_parts (Err fault) over = tt
-
-  pub state_after : (result : Result TableText Fault) → IfOk result Over → IfErr result (HasFailedPart old now) → (now.known ≡ old.known) × (now.failures ≡ old.failures + failed_by result)
-  state_after (Ok found) over failed = (over.all.read.known, omega (arith, over.all.read.failures))
-  state_after (Err fault) over failed = (failed.known, failed.failures)
 
 -- the text is that over the file's table
 pub text_by_parts : (known : Option (List ℕ)) (columnar : ColumnarTable) (query : Query) (scan : Scan) (wanted : List Bool) (text : List ℕ) (scanned : Scanned) → IsBlank (table_in columnar)
@@ -131,18 +95,6 @@ text_read_if known known_then columnar new query scan (Ok found) is same columns
 }
 text_read_if known known_then columnar new query scan (Err fault) is same columns over = tt
 
--- an error of the file's bytes is no failed read
-no_both : (m r : Bool) → not (m || r) ≡ true → r ≡ true → ⊥
-no_both true r damaged is = cc damaged
-no_both false true damaged is = cc damaged
-no_both false false damaged is = cc is
-
-pub no_failed_read : (fault : Fault) → not (is_input_fault fault) ≡ true → failed_by {T = Bool} (Err fault) ≡ 0
-no_failed_read fault damaged = by_read (is_read_fault fault) refl
-  where
-    by_read : (r : Bool) → is_read_fault fault ≡ r → failed_by {T = Bool} (Err fault) ≡ 0
-    by_read true e = absurd (no_both (is_memory fault) (is_read_fault fault) damaged e)
-    by_read false e = rw e refl
-
+-- an error is no text
 pub err_is_not_ok : (fault : Fault) (found : TableText) → ◌≡◌ {A = Result TableText Fault} (Err fault) (Ok found) → ⊥
 err_is_not_ok fault found is = cc is
