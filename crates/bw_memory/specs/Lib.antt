@@ -2,6 +2,7 @@ pub mod Columnar
 pub mod ColumnStore
 pub mod FileColumns
 pub mod Columns
+pub mod Failed
 pub mod Filling
 pub mod StoredSegments
 pub mod MemoryTable

@@ -1,5 +1,6 @@
 //! Tables whose columns are in memory, or are read when they are needed.
-ghost use Rattle.std.specs.Prelude.{◌≡◌, ◌<◌, ℕ, IfErr, OnOk, length};
+ghost use Rattle.std.specs.Prelude.{◌≡◌, ◌<◌, ◌≤◌, ℕ, Bool, IfErr, IsTrue, OnOk, false, length, true};
+ghost use Rattle.bw_io.specs.Source.{is_read_fault};
 ghost use Rattle.bw_file.specs.TableReading.{IsTableFault};
 ghost use Rattle.bw_memory.specs.ColumnStore.{ColumnSource, HasColumn, HasColumnFault, IsTableOf};
 ghost use Rattle.bw_memory.specs.MemoryTable.{schema_of};
@@ -17,6 +18,12 @@ pub trait ColumnStore {
     /// Where its columns come from.
     ghost source: { Self → ColumnSource };
 
+    /// Whether the file is read no more, since a read failed or the file has changed.
+    ghost is_lost: { Self → Bool };
+
+    /// How many calls of the file's device have failed.
+    ghost failures: { Self → ℕ };
+
     /// Returns the table. In a column that wasn't read each row has the values of the source, or the
     /// column's minimum.
     fn table(&self) -> &MemoryTable
@@ -24,8 +31,8 @@ pub trait ColumnStore {
         ensures of { IsTableOf (source self.now) (table self.now) };
 
     /// Reads a column, unless it is in memory. Errors: those of the file in this column (306 to 308,
-    /// 305); 701 if a read fails, or the file has changed; 801 if memory is refused. The columns that
-    /// were read stay.
+    /// 305); 701 if a read fails, or the file has changed, or that was so before; 801 if memory is
+    /// refused. The columns that were read stay.
     fn read(&mut self, alloc: Global, column: usize) -> Result<(), Fault>
         requires { column < length (schema_of (table self.old)).columns.items }
         ensures read { OnOk result (HasColumn (source self.old) (table self.new) column) }
@@ -35,7 +42,13 @@ pub trait ColumnStore {
             → HasColumn (source self.old) (table self.new) other }
         ensures of { IsTableOf (source self.old) (table self.new) }
         ensures schema { schema_of (table self.new) ≡ schema_of (table self.old) }
-        ensures source { source self.new ≡ source self.old };
+        ensures source { source self.new ≡ source self.old }
+        ensures lost { IfErr result (λ fault. IsTrue (is_read_fault fault)
+            → is_lost self.new ≡ true) }
+        ensures found { OnOk result (is_lost self.new ≡ is_lost self.old) }
+        ensures failed { is_lost self.old ≡ false → is_lost self.new ≡ true
+            → failures self.old < failures self.new }
+        ensures count { failures self.old ≤ failures self.new };
 }
 
 impl ColumnStore for MemoryTable {
@@ -44,6 +57,10 @@ impl ColumnStore for MemoryTable {
     ghost table = { λ table. table };
 
     ghost source = { in_memory };
+
+    ghost is_lost = { λ table. false };
+
+    ghost failures = { λ table. 0 };
 
     fn table(&self) -> &MemoryTable {
         self

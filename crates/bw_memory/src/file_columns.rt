@@ -1,6 +1,6 @@
 //! The columns of a file by columns, each of which is read when it is needed.
 ghost use Rattle.std.proofs.Props.{props};
-ghost use Rattle.std.specs.Prelude.{◌≡◌, ◌-◌, ◌^◌, ◌<◌, IfErr, IfOk, IsTrue, OnErr, OnOk, false, length};
+ghost use Rattle.std.specs.Prelude.{◌≡◌, ◌-◌, ◌^◌, ◌<◌, ◌≤◌, IfErr, IfOk, IsTrue, OnErr, OnOk, false, length};
 ghost use Rattle.std.specs.Prelude.{true};
 ghost use Rattle.bw_io.specs.Source.{is_input_fault, is_read_fault};
 ghost use Rattle.bw_file.specs.TableReading.{IsTableFault};
@@ -8,12 +8,13 @@ ghost use Rattle.bw_memory.specs.Columnar.{HasReadColumn, IsColumnFault, column_
 ghost use Rattle.bw_memory.specs.ColumnStore.{header_of, in_file};
 ghost use Rattle.bw_memory.specs.Columns.{IsBlank};
 ghost use Rattle.bw_memory.specs.FileColumns.{HasColumnsRead, IsBlankElsewhere};
+ghost use Rattle.bw_memory.specs.Failed.{has_failed_to_read};
 
 use crate::column_store::ColumnStore;
 use crate::columnar::ColumnarTable;
 use crate::table::MemoryTable;
 use bw_io::RandomAccess;
-use bw_model::{Fault, code};
+use bw_model::{Fault, Place, code};
 use std::alloc::Global;
 
 /// A file by columns and its table. A column is read when it is first needed, and stays in memory.
@@ -72,6 +73,12 @@ impl<D: RandomAccess + Drop> FileColumns<D> {
         ensures fault { IfErr result IsTableFault }
         ensures untouched { OnErr result (self.new.columnar ≡ self.old.columnar) }
         ensures known { (D.state self.new.device).known ≡ (D.state self.old.device).known }
+        ensures lost { IfErr result (λ fault. IsTrue (is_read_fault fault)
+            → self.new.is_lost ≡ true) }
+        ensures found { OnOk result (self.new.is_lost ≡ false) }
+        ensures failed { self.new.is_lost ≡ true → (D.state self.old.device).failures
+            < (D.state self.new.device).failures }
+        ensures count { (D.state self.old.device).failures ≤ (D.state self.new.device).failures }
     {
         let done = self.columnar.column_blocks(alloc, &mut self.device, column);
         if has_failed_to_read(&done) || self.device.confirm().is_err() {
@@ -87,15 +94,25 @@ impl<D: RandomAccess + Drop> FileColumns<D> {
 
 /// Returns whether a read failed.
 fn has_failed_to_read(done: &Result<Vec<u8>, Fault>) -> bool
-    ensures { result ≡ false → IfErr done.now (λ fault. is_read_fault fault ≡ false) }
+    ensures { result ≡ has_failed_to_read done.now }
 {
-    matches!(done, Err(fault) if fault.code == code::READ_FAILED)
+    matches!(
+        done,
+        Err(Fault {
+            code: code::READ_FAILED,
+            place: Place::Nowhere,
+        })
+    )
 }
 
 impl<D: RandomAccess + Drop> ColumnStore for FileColumns<D> {
     ghost table = { λ columns. table_in columns.columnar };
 
     ghost source = { λ columns. in_file (D.state columns.device).known (header_of columns.columnar) };
+
+    ghost is_lost = { λ columns. columns.is_lost };
+
+    ghost failures = { λ columns. (D.state columns.device).failures };
 
     fn table(&self) -> &MemoryTable {
         self.columnar.table()
