@@ -1,10 +1,11 @@
 //! Runs queries over a table in memory.
 ghost use Rattle.std.specs.Prelude.{◌≡◌, ◌⊎◌, ◌-◌, ◌^◌, ◌<◌, ℕ, List, None, Result, Ok, IsTrue};
-ghost use Rattle.std.specs.Prelude.{IfOk, IfErr};
+ghost use Rattle.std.specs.Prelude.{IfOk, IfErr, false, true};
 ghost use Rattle.bw_model.specs.declared.fault.Fault.{Fault};
 ghost use Rattle.bw_model.specs.declared.query.Query.{Query};
 ghost use Rattle.bw_model.specs.Fault.{is_memory};
 ghost use Rattle.bw_io.specs.Sink.{WriteOutcome, is_write_fault, none_aside};
+ghost use Rattle.bw_io.specs.Source.{is_read_fault};
 ghost use Rattle.bw_memory.specs.MemoryTable.{rows_of, schema_of};
 ghost use Rattle.bw_query.specs.MemoryAnswer.{AnswersRows, IsMemoryAnswer};
 ghost use Rattle.bw_query.specs.MemoryAnswer.{is_output_fault};
@@ -98,6 +99,13 @@ pub fn answer_with_programs<C: ColumnStore, K: Sink>(
         → IfErr result (λ fault. IsTrue (is_output_fault fault)
         ⊎ HasColumnError (by_statement None sql.now) (schema_of (C.table store.old))
         (C.source store.old) fault) }
+
+    // If the error is a failed read, the file is read no more; and that begins with a call of its
+    // device that failed.
+    ensures lost { IfErr result (λ fault. IsTrue (is_read_fault fault)
+        → C.is_lost store.new ≡ true) }
+    ensures failed { C.is_lost store.old ≡ false → C.is_lost store.new ≡ true
+        → C.failures store.old < C.failures store.new }
 
     // The programs serve the next statement too, by the same program files, over the same table.
     ensures serves { Serves (schema_of (C.table store.new)).columns.items programs.new }

@@ -1,5 +1,6 @@
 //! Has the columns of a query in memory.
-ghost use Rattle.std.specs.Prelude.{◌≡◌, IfErr, OnOk};
+ghost use Rattle.std.specs.Prelude.{◌≡◌, ◌<◌, IfErr, IsTrue, OnOk, false, true};
+ghost use Rattle.bw_io.specs.Source.{is_read_fault};
 ghost use Rattle.bw_file.specs.TableReading.{IsTableFault};
 ghost use Rattle.bw_memory.specs.ColumnStore.{HasFirstFault, HasRows};
 ghost use Rattle.bw_memory.specs.MemoryTable.{rows_of, schema_of};
@@ -23,6 +24,10 @@ pub(crate) fn read_named<C: ColumnStore>(
     ensures fault { IfErr result IsTableFault }
     ensures source { C.source store.new ≡ C.source store.old }
     ensures schema { schema_of (C.table store.new) ≡ schema_of (C.table store.old) }
+    ensures lost { IfErr result (λ fault. IsTrue (is_read_fault fault)
+        → C.is_lost store.new ≡ true) }
+    ensures failed { C.is_lost store.old ≡ false → C.is_lost store.new ≡ true
+        → C.failures store.old < C.failures store.new }
 {
     for column in 0..store.table().schema().columns.len() {
         if is_named(query, column) {

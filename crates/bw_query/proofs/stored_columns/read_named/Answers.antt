@@ -33,6 +33,8 @@ loop-column-preserved g c =
             w.in_ok-read.ensures.source ∙ c.loop-column.invariant.1,
             w.in_ok-read.ensures.schema ∙ c.loop-column.invariant.2,
             c.loop-column.invariant.3,
+            w.in_ok-read.ensures.found ∙ c.loop-column.invariant.4,
+            omega (arith, w.in_ok-read.ensures.count, c.loop-column.invariant.5),
           )
       | else-is_named w ↦
           rw w.store-is (
@@ -40,6 +42,8 @@ loop-column-preserved g c =
             c.loop-column.invariant.1,
             c.loop-column.invariant.2,
             c.loop-column.invariant.3,
+            c.loop-column.invariant.4,
+            c.loop-column.invariant.5,
           )
     ]
 

@@ -1,4 +1,4 @@
-use Rattle.std.proofs.Common.{◌≡◌, length}
+use Rattle.std.proofs.Common.{◌≡◌, ◌≤◌, length}
 use Rattle.bw_memory.specs.ColumnStore.{HasColumnsBefore, columns_of}
 use Rattle.bw_memory.specs.MemoryTable.{schema_of}
 use Rattle.bw_query.specs.NamedColumns.{is_named_by}
@@ -11,3 +11,5 @@ invariant-loop-column g l =
     × (g.C.ColumnStore.source l.store ≡ g.C.ColumnStore.source l.fn.store)
     × (schema_of (g.C.ColumnStore.table l.store) ≡ schema_of (g.C.ColumnStore.table l.fn.store))
     × (l.column-end ≡ length (columns_of (g.C.ColumnStore.source l.fn.store)))
+    × (g.C.ColumnStore.is_lost l.store ≡ g.C.ColumnStore.is_lost l.fn.store)
+    × (g.C.ColumnStore.failures l.fn.store ≤ g.C.ColumnStore.failures l.store)
