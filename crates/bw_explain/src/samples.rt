@@ -9,8 +9,8 @@ use bw_program::{Instr, Program};
 use std::alloc::{AllocError, Global};
 
 /// All combinations of values are tried if they are at most so many. A column has at most so many
-/// values besides its bounds and null, which is all that a statement has room for.
-const MOST_ROWS: u64 = 1 << 15;
+/// values besides its bounds and null: no statement has room for literals that need more.
+const MOST_ROWS: u64 = 1 << 16;
 
 /// So many rows are drawn, besides.
 const DRAWN_ROWS: u64 = 4 * LANES as u64;
