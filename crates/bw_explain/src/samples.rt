@@ -8,11 +8,15 @@ use bw_model::{Column, Cond, Operand, Row, Value};
 use bw_program::{Instr, Program};
 use std::alloc::{AllocError, Global};
 
-/// How many segments of 512 rows a program is tried on.
-pub(crate) const SEGMENTS: u64 = 4;
+/// All combinations of values are tried if they are at most so many. A column has at most so many
+/// values besides its bounds and null: no statement has room for literals that need more.
+const MOST_ROWS: u64 = 1 << 16;
 
-/// At most so many values of a column are tried, and then its neighbours, bounds and null.
-const MOST_VALUES: usize = 512;
+/// So many rows are drawn, besides.
+const DRAWN_ROWS: u64 = 4 * LANES as u64;
+
+/// So many values of a column are also tried of one that is compared with it.
+const MOST_SHARED: usize = 32;
 
 /// The values of a column, each once, those of a condition first.
 #[derive(Drop)]
@@ -20,6 +24,8 @@ struct Values {
     lo: i64,
     hi: i64,
     of: Vec<Value>,
+    /// Whether the condition or the program reads the column.
+    is_read: bool,
 }
 
 impl Values {
@@ -29,12 +35,14 @@ impl Values {
             lo: column.lo,
             hi: column.hi,
             of: Vec::new(alloc),
+            is_read: false,
         }
     }
 
     /// Adds a number and its neighbours, those that the column can have, unless it has the most.
     fn add(&mut self, number: i64) -> Result<(), AllocError> {
-        if self.of.len() >= MOST_VALUES {
+        self.is_read = true;
+        if self.of.len() as u64 >= MOST_ROWS {
             return Ok(());
         }
         for near in [number, number.saturating_sub(1), number.saturating_add(1)] {
@@ -45,8 +53,12 @@ impl Values {
         Ok(())
     }
 
-    /// Adds the first and the last values, and null, if the column may be null.
+    /// Adds the first and the last values, and null, if the column may be null; the first alone, if
+    /// the column isn't read.
     fn add_bounds(&mut self, is_nullable: bool) -> Result<(), AllocError> {
+        if !self.is_read {
+            return Ok(self.of.push(Some(self.lo))?);
+        }
         for bound in [self.lo, self.hi] {
             if !self.of.contains(&Some(bound)) {
                 self.of.push(Some(bound))?;
@@ -60,6 +72,7 @@ impl Values {
 
     /// Adds the value of a code, and its neighbours.
     fn add_code(&mut self, code: u64) -> Result<(), AllocError> {
+        self.is_read = true;
         match self.lo.checked_add_unsigned(code) {
             Some(value) => self.add(value),
             None => Ok(()),
@@ -73,6 +86,10 @@ impl Values {
 pub(crate) struct Samples {
     alloc: Global,
     columns: Vec<Values>,
+    /// How many combinations of values are to be made, all or none, and which column has the most
+    /// values.
+    combinations: u64,
+    widest: usize,
     /// How many rows are made, and the last number that was drawn.
     count: u64,
     drawn: u64,
@@ -84,6 +101,8 @@ impl Samples {
         let mut samples = Samples {
             alloc,
             columns: Vec::new(alloc),
+            combinations: 0,
+            widest: 0,
             count: 0,
             drawn: 1,
         };
@@ -99,7 +118,30 @@ impl Samples {
                 values.add_bounds(column.nullable)?;
             }
         }
+        samples.measure();
         Ok(samples)
+    }
+
+    /// Finds how many combinations are to be made, and the column with the most values.
+    fn measure(&mut self) {
+        let (mut count, mut most) = (1u64, 0);
+        for (number, values) in self.columns.iter().enumerate() {
+            count = count.saturating_mul(values.of.len() as u64);
+            if values.of.len() > most {
+                (self.widest, most) = (number, values.of.len());
+            }
+        }
+        self.combinations = if count <= MOST_ROWS { count } else { 0 };
+    }
+
+    /// Returns how many segments there are: of all combinations, if they are few, or else of all
+    /// values of a column, and of drawn rows.
+    pub(crate) fn segments(&self) -> u64 {
+        let values = self
+            .columns
+            .get(self.widest)
+            .map_or(0, |found| found.of.len() as u64);
+        (self.combinations.max(values).min(MOST_ROWS) + DRAWN_ROWS) / LANES as u64 + 1
     }
 
     /// Adds the values of a condition's comparisons.
@@ -122,6 +164,7 @@ impl Samples {
                 }
             }
             Cond::Not(part) | Cond::Test(part, _) => self.read(part)?,
+            Cond::IsNull(Operand::Col(column)) => self.note(*column),
             Cond::Always | Cond::IsNull(_) => {}
         }
         Ok(())
@@ -140,6 +183,13 @@ impl Samples {
             _ => {}
         }
         Ok(())
+    }
+
+    /// Notes that a column is read.
+    fn note(&mut self, column: usize) {
+        if let Some(values) = self.columns.get_mut(column) {
+            values.is_read = true;
+        }
     }
 
     /// Adds a literal to a column's values.
@@ -181,6 +231,7 @@ impl Samples {
                     self.add_code(column.into(), code)?;
                     self.add_bytes(column.into(), byte, place)?;
                 }
+                Instr::Nulls(_, column) => self.note(column.into()),
                 _ => {}
             }
         }
@@ -206,34 +257,25 @@ impl Samples {
         }
     }
 
-    /// Returns the rows of the next segment: all there are, one after another, if they are few; else
-    /// drawn ones, of which some are as a row of `bases` in most columns.
+    /// Returns the rows of the next segment: all combinations, one after another, and then drawn ones,
+    /// of which some are as a row of `bases` in most columns.
     pub(crate) fn next(&mut self, bases: [Option<&Row>; 2]) -> Result<Vec<Row>, AllocError> {
         let mut rows = Vec::new(self.alloc);
-        let are_few = self.combinations() <= SEGMENTS * LANES as u64;
         for _ in 0..LANES {
+            let is_next = self.count < self.combinations;
             let base = match self.draw() % 3 {
-                place if !are_few => bases.get(place as usize).copied().flatten(),
+                place if !is_next => bases.get(place as usize).copied().flatten(),
                 _ => None,
             };
-            let row = self.row(base, are_few)?;
+            let row = self.row(base, is_next)?;
             rows.push(row)?;
             self.count = self.count.wrapping_add(1);
         }
         Ok(rows)
     }
 
-    /// Returns in how many ways values can be combined.
-    fn combinations(&self) -> u64 {
-        let mut count = 1u64;
-        for values in &self.columns {
-            count = count.saturating_mul(values.of.len() as u64);
-        }
-        count
-    }
-
-    /// Returns a row: the next one of all, or a drawn one, three of four values of which are those
-    /// of the base, if there is one.
+    /// Returns a row: the next combination, or a drawn one, three of four values of which are those
+    /// of the base, if there is one. Drawn ones have the values of the widest column in turn.
     fn row(&mut self, base: Option<&Row>, is_next: bool) -> Result<Row, AllocError> {
         let mut row = Vec::new(self.alloc);
         let mut rest = self.count;
@@ -245,7 +287,13 @@ impl Samples {
                 .get(column)
                 .map_or(&[] as &[Value], |found| &found.of);
             let count = (values.len() as u64).max(1);
-            let place = if is_next { rest } else { drawn / 4 } % count;
+            let place = if is_next {
+                rest
+            } else if column == self.widest {
+                self.count
+            } else {
+                drawn / 4
+            } % count;
             rest /= count;
             let other = values.get(place as usize).copied().flatten();
             row.push(if drawn % 4 > 0 {
@@ -265,6 +313,3 @@ impl Samples {
         self.drawn >> 33
     }
 }
-
-/// So many values of a column are also tried of one that is compared with it.
-const MOST_SHARED: usize = 32;

@@ -64,7 +64,7 @@ impl Trial<'_> {
     fn wrong_rows(self, alloc: Global) -> Result<Vec<usize>, AllocError> {
         let (mut parts, mut beside) = (Vec::new(alloc), mask(0));
         parts.push(Part {
-            rows: mask(self.segment.rows_in()),
+            rows: self.all_rows(),
             from: 0,
         })?;
         let runs = INSTRUCTIONS / (self.program.len() + 1) + 1;
@@ -82,13 +82,19 @@ impl Trial<'_> {
                 return self.fewest(alloc, &part.rows, &wrong);
             }
         }
-        let all = mask(self.segment.rows_in());
+        let all = self.all_rows();
         for place in 0..LANES {
             if lane(&all, place) && self.is_wrong(alloc, place, &mask(0))? {
                 return Ok(Vec::from_slice(alloc, &[place])?);
             }
         }
         Ok(Vec::new(alloc))
+    }
+
+    /// Returns the set of all rows.
+    #[tactic(auto, unfolding(bw_model::specs::Groups::group_size))]
+    fn all_rows(self) -> Plane {
+        mask(self.segment.rows_in())
     }
 
     /// Returns a row that the program gets wrong alone, or one that it gets wrong and one beside it;

@@ -2,7 +2,7 @@
 //! a segment shows that.
 use crate::claim::Claim;
 use crate::program_file::line_of;
-use crate::samples::{SEGMENTS, Samples};
+use crate::samples::Samples;
 use crate::text::{Text, named, put};
 use crate::trial::wrong_rows;
 use crate::turn::put_turn;
@@ -130,7 +130,7 @@ fn put_found(text: &mut Text, claim: &Claim<'_>, unproved: &Unproved) -> Option<
         _ => [None, None],
     };
     let mut samples = Samples::new(text.alloc, claim).ok()?;
-    for _ in 0..SEGMENTS {
+    for _ in 0..samples.segments() {
         let rows = samples.next(bases).ok()?;
         if put_from(text, claim, &rows)? {
             return Some(true);
