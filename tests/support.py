@@ -11,6 +11,7 @@ import importlib
 import io
 import os
 import pathlib
+import random
 import re
 import shutil
 import signal
@@ -43,6 +44,8 @@ LATER = ("argparse", "csv", "decimal", "difflib", "fractions", "hashlib", "json"
          "sqlite3", "subprocess", "threading", "unicodedata")
 # how many seconds a call may take
 LONGEST = 120
+# whether tests that draw their cases draw all of them: ./check --whole
+IS_WHOLE = bool(os.environ.get("WHOLE"))
 
 # if standard input is closed, no other file may get its number
 try:
@@ -118,7 +121,7 @@ def import_package() -> None:
         importlib.import_module(name.removesuffix(".__init__"))
     for name in LATER:
         importlib.import_module(name)
-    import_.parser_of().format_usage()
+    import_parser().format_usage()
     with tempfile.TemporaryDirectory() as name:
         table = imported(pathlib.Path(name, "t"), "a,b,c,d,e,f\n1,1.5,2024-05-01,12:30,true,x\n"
                                                   "-2,,2024-05-02,12:31,false,1e5\n")
@@ -325,6 +328,22 @@ def options(*words: str) -> argparse.Namespace:
     return parsed(parser, words)
 
 
+def sample(few: int, whole: int, is_whole: bool = IS_WHOLE) -> int:
+    """Returns how many cases a test draws: few, the first ones of its seed, or the whole."""
+    if not 0 < few <= whole:
+        raise ValueError(f"{few} isn't a sample of {whole}")
+    return whole if is_whole else few
+
+
+Case = TypeVar("Case")
+
+
+def sample_of(cases: Sequence[Case], few: int, seed: int, is_whole: bool = IS_WHOLE) -> list[Case]:
+    """Returns as many cases as `sample`, drawn by a seed, in their order."""
+    count = sample(few, len(cases), is_whole)
+    return [cases[at] for at in sorted(random.Random(seed).sample(range(len(cases)), count))]
+
+
 Made = TypeVar("Made")
 
 
@@ -372,12 +391,18 @@ def described(column: Any) -> tuple[Any, ...]:
             None if column.kind.listed is None else list(column.kind.listed))
 
 
+@functools.lru_cache(None)
+def import_parser() -> argparse.ArgumentParser:
+    """Returns what reads the arguments of bw-import: making it takes as long as a small import."""
+    return import_.parser_of()
+
+
 def imported(path: pathlib.Path, data: str, *words: str) -> pathlib.Path:
     """Imports a CSV of these characters as the table file, or the folder, of a path, which it
     returns."""
     raw = path.with_name(f"{path.name}.csv")
     raw.write_bytes(data.encode())
-    given = import_.parser_of().parse_args([str(raw), str(path), *words])
+    given = import_parser().parse_args([str(raw), str(path), *words])
     with contextlib.redirect_stdout(io.StringIO()), warnings.catch_warnings():
         warnings.simplefilter("ignore", ResourceWarning)
         importing.import_file(given, given.table, given.shards is not None)

@@ -11,7 +11,7 @@ import bwtools
 from bwtools._sql import plan
 from bwtools._sql.plan import Statement
 
-from tests import reference
+from tests import reference, support
 from tests.support import ROOT, Imported
 
 HERE = ROOT / "tests" / "questions"
@@ -123,9 +123,11 @@ class Questions(Imported, reference.Compared):
         return answer and list(answer.rows())
 
     def test_each_way_has_the_rows_of_sqlite(self):
-        """Columns that were listed for one question serve the others, and the same one."""
-        counts = {1: 0, 2: 0}
-        for place, asked, instead in questions():
+        """Columns that were listed for one question serve the others, and, of a sample, the same
+        one."""
+        counts, found = {1: 0, 2: 0}, questions()
+        again = {place for place, *_ in support.sample_of(found, len(found) // 4, 77)}
+        for place, asked, instead in found:
             wanted = self.reference.rows(instead)
             for way in counts:
                 with self.subTest(place, way=way, asked=asked):
@@ -133,8 +135,10 @@ class Questions(Imported, reference.Compared):
                     if rows is not None:
                         counts[way] += 1
                         self.compare(rows, wanted)
-            with self.subTest(place, asked=asked):
-                self.compare(list(self.connection._database.answer(asked).rows()), wanted)
+            if place in again:
+                with self.subTest(place, asked=asked):
+                    self.compare(list(self.connection._database.answer(asked).rows()), wanted)
+        self.assertGreater(len(again), 50)
         self.assertGreaterEqual(counts[1], 50)
         self.assertGreaterEqual(counts[2], 80)
 
