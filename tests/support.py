@@ -13,6 +13,7 @@ import os
 import pathlib
 import random
 import re
+import runpy
 import shutil
 import signal
 import subprocess
@@ -135,12 +136,13 @@ def import_package() -> None:
 
 
 class Running:
-    """A Python program in a fork of this process, which saves the start of another Python. Its
-    files are a program's own: input of these bytes, or an open file of this number. Errors may
-    be written to the same file as output."""
+    """A Python program, or a script of this path, in a fork of this process, which saves the start
+    of another Python. Its files are a program's own: input of these bytes, or an open file of this
+    number. Errors may be written to the same file as output."""
 
-    def __init__(self, name: str, *words: Any, given: bytes | str | int = b"", cwd: Any = None,
-                 names: dict[str, str] | None = None, is_mixed: bool = False) -> None:
+    def __init__(self, name: str | pathlib.Path, *words: Any, given: bytes | str | int = b"",
+                 cwd: Any = None, names: dict[str, str] | None = None,
+                 is_mixed: bool = False) -> None:
         import_package()
         self.files = [tempfile.TemporaryFile() for _ in range(3)]
         places = [file.fileno() for file in self.files]
@@ -176,9 +178,9 @@ class Running:
         return Done(status, *told[1:])
 
 
-def tool(name: str, *words: Any, given: bytes | str = b"", cwd: Any = None,
+def tool(name: str | pathlib.Path, *words: Any, given: bytes | str = b"", cwd: Any = None,
          **names: str) -> Done:
-    """Runs a Python program in a fork of this process."""
+    """Runs a Python program, or a script, in a fork of this process."""
     return Running(name, *words, given=given, cwd=cwd, names=names).done()
 
 
@@ -198,8 +200,9 @@ def in_fork(act: Callable[[], Any]) -> int:
     return process
 
 
-def run_tool(name: str, words: list[str], cwd: Any, names: dict[str, str]) -> Any:
-    """Runs a Python program, in a process of its own. Returns its status."""
+def run_tool(name: str | pathlib.Path, words: list[str], cwd: Any,
+             names: dict[str, str]) -> Any:
+    """Runs a Python program or a script, in a process of its own. Returns its status."""
     # nohup, or a shell's &, makes a program ignore them
     signal.signal(signal.SIGINT, signal.default_int_handler)
     for number in (signal.SIGHUP, signal.SIGTERM):
@@ -210,13 +213,17 @@ def run_tool(name: str, words: list[str], cwd: Any, names: dict[str, str]) -> An
     gc.disable()
     os.chdir(cwd or os.getcwd())
     os.environ.update(names)
-    sys.argv = [name, *words]
+    sys.argv = [str(name), *words]
     sys.stdin = open(0, encoding="utf-8", closefd=False)
     sys.stdout = open(1, "w", encoding="utf-8", closefd=False)
     sys.stderr = open(2, "w", 1, "utf-8", "backslashreplace", closefd=False)
     status: Any = 1
     try:
-        status = importlib.import_module(f"bwtools._cli.{TOOLS[name]}").main()
+        if isinstance(name, pathlib.Path):
+            runpy.run_path(str(name), run_name="__main__")
+            status = 0
+        else:
+            status = importlib.import_module(f"bwtools._cli.{TOOLS[name]}").main()
     except SystemExit as ended:
         status = ended.code
     except BaseException:

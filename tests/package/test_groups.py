@@ -316,13 +316,13 @@ class SumsOfFloats(Imported):
                 lambda: chance.choice((0.1, -0.1, 0.0, 0.3, 1e16)),
                 lambda: math.ldexp(chance.random() - .5, chance.randrange(-40, 40))]):
             doubles = [draw() for _ in range(500)]
-            # a statement for each of a thousand exponents is asked in the whole alone
-            large = 1e-7 if IS_WHOLE or max(doubles) > 1e-7 else 1e-300
+            # the whole asks a statement for each of a thousand exponents, the sample for sixty
+            other = 1e-7 if IS_WHOLE else max(doubles) / 2 ** 60 or 5e-324
             lines = "".join(f"{place},{each!r}\n" for place, each in enumerate(doubles))
             path = self.folder / f"floats{number}.bw"
-            imported(path, f"id,f\n{lines}999,{large}\n998,\n")
+            imported(path, f"id,f\n{lines}999,{other}\n998,\n")
             with bwtools.connect(path) as connection:
-                for where, kept in [("", [*doubles, large]),
+                for where, kept in [("", [*doubles, other]),
                                     (" WHERE id < 200", doubles[:200]),
                                     (" WHERE f < 0", [each for each in doubles if each < 0]),
                                     (" WHERE id = 998", [])]:
