@@ -6,6 +6,7 @@ import csv
 import decimal
 import gzip
 import io
+import itertools
 import os
 import random
 import resource
@@ -400,21 +401,23 @@ class Names(Tools):
 class Closed(Tools):
     """Standard files that are closed: no other file gets their numbers."""
 
+    WAYS = list(itertools.product((SHOP, b"\xef\xbb\xbf" + SHOP), ((0,), (0, 2), (2,)), (
+        ["bw-import", "t.csv", "t.bw"], ["bw-shards", "load", "--rows", "2", "t.csv", "s"])))
+
     def test_closed(self):
-        for data in (SHOP, b"\xef\xbb\xbf" + SHOP):
-            (self.folder / "t.csv").write_bytes(data)
-            for numbers in ((0,), (0, 2), (2,)):
-                for words in (["bw-import", "t.csv", "t.bw"],
-                              ["bw-shards", "load", "--rows", "2", "t.csv", "s"]):
-                    with self.subTest(words[0], numbers=numbers):
-                        done = subprocess.run(
-                            [sys.executable, "-S", PYTHON / "bin" / words[0], *words[1:]],
-                            cwd=self.folder, stdout=subprocess.PIPE, check=False, timeout=LONGEST,
-                            preexec_fn=lambda numbers=numbers: list(map(os.close, numbers)))
-                        self.assertEqual(done.returncode, 0)
-                        done = tool("bw-ask", words[-1], "SELECT COUNT(*), MAX(id) FROM t",
-                                    cwd=self.folder)
-                        self.assertEqual(done, (0, "COUNT(*),MAX(id)\n4,4\n", ""))
+        """The sample has each of the two files, the three sets and the two programs."""
+        for data, numbers, words in self.WAYS if support.IS_WHOLE else self.WAYS[::3] + \
+                self.WAYS[5:6]:
+            with self.subTest(words[0], data=data[:3], numbers=numbers):
+                (self.folder / "t.csv").write_bytes(data)
+                done = subprocess.run(
+                    [sys.executable, "-S", PYTHON / "bin" / words[0], *words[1:]],
+                    cwd=self.folder, stdout=subprocess.PIPE, check=False, timeout=LONGEST,
+                    preexec_fn=lambda numbers=numbers: list(map(os.close, numbers)))
+                self.assertEqual(done.returncode, 0)
+                done = tool("bw-ask", words[-1], "SELECT COUNT(*), MAX(id) FROM t",
+                            cwd=self.folder)
+                self.assertEqual(done, (0, "COUNT(*),MAX(id)\n4,4\n", ""))
 
 
 class Output(Tools):
@@ -624,14 +627,10 @@ class Places(Tools):
     def run_in(self, *words, **names):
         return support.run(words, cwd=self.folder, **names)
 
-    def test_a_copy_and_symlinks(self):
+    def test_a_copy_by_a_bare_python(self):
+        """test_install has copies and symlinks that start by themselves."""
         support.copy_python(self.folder / "copy")
-        for place in ("copy/bin", "bin"):
-            with self.subTest(place):
-                made = self.run_in(f"{place}/bw-import", "t.csv", "t.bw")
-                self.assertEqual((made.status, made.err), (0, ""))
-                self.assertEqual(self.run_in(f"{place}/bw-ask", "t.bw", self.ASKS),
-                                 (0, "price\n13.50\n", ""))
+        self.imported(SHOP)
         done = self.run_in(sys.executable, "-I", "-S", "copy/bin/bw-ask", "t.bw", self.ASKS)
         self.assertEqual(done, (0, "price\n13.50\n", ""))
 
@@ -680,7 +679,7 @@ TOTALS = ("SELECT COUNT(*), COUNT(num), SUM(num), MIN(num), MAX(land), MIN(day),
           "FROM t")
 
 
-@support.each([(f"seed {seed}", seed) for seed in range(4)])
+@support.each([(f"seed {seed}", seed) for seed in range(support.sample(2, 4))])
 class Spellings(Tools):
     """Drawn conditions over drawn rows in drawn spellings select those that SQLite selects."""
 

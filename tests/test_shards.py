@@ -45,17 +45,23 @@ if __name__ == "__main__":
         sys.stdin.read()
 """
 
-# runs bw-shards once for each list of arguments, and prints the status; Dask is imported once
+# runs bw-shards once for each line, which has the arguments, the input and the environment, and
+# prints the status; Dask is imported once
 IN_TURN = """
 import json, os, sys
 sys.path.insert(0, sys.argv[1])
 import distributed
 from bwtools._cli import shards
-for number, words in enumerate(json.load(sys.stdin)):
+for line in sys.stdin:
+    words, given, names = json.loads(line)
+    with open("in", "w") as file:
+        file.write(given)
     if not os.fork():
+        os.dup2(os.open("in", os.O_RDONLY), 0)
         for place, name in ((1, "out"), (2, "err")):
-            os.dup2(os.open(f"{name}-{number}", os.O_WRONLY | os.O_CREAT, 0o600), place)
-        sys.argv = ["bw-shards", *words]
+            os.dup2(os.open(name, os.O_WRONLY | os.O_CREAT | os.O_TRUNC, 0o600), place)
+        sys.argv, sys.stdin = ["bw-shards", *words], open(0, closefd=False)
+        os.environ.update(names)
         sys.exit(shards.main())
     print(os.waitstatus_to_exitcode(os.wait()[1]), flush=True)
 """
@@ -406,36 +412,28 @@ class Workers(Loaded):
         cls.python = python_with_dask()
         if not cls.python:
             raise unittest.SkipTest("bw-shards by Dask: install python3-distributed")
-        cls.address = cls.enter_cluster()
+        # a cluster of two workers, which are forks of a process that has imported what they need
+        (cls.folder / "cluster").write_text(CLUSTER)
+        cluster = cls.run_beside("cluster")
+        cls.calls = cls.run_beside("-c", IN_TURN, PYTHON)
+        cls.address = cluster.stdout.readline().strip()
 
     @classmethod
-    def enter_cluster(cls):
-        """Runs a cluster of two workers until the end of the tests. Returns the address of its
-        scheduler."""
-        (cls.folder / "cluster").write_text(CLUSTER)
-        # workers are forks of a process that has imported what they need
-        cluster = subprocess.Popen(
-            [cls.python, "cluster"], stdin=subprocess.PIPE, stdout=subprocess.PIPE,
+    def run_beside(cls, *words):
+        """Runs a Python program until the end of the tests."""
+        process = subprocess.Popen(
+            [cls.python, *words], stdin=subprocess.PIPE, stdout=subprocess.PIPE,
             stderr=subprocess.DEVNULL, text=True, cwd=cls.folder,
             env={**os.environ, "DASK_DISTRIBUTED__WORKER__MULTIPROCESSING_METHOD": "forkserver"})
-
-        def end():
-            cluster.communicate(timeout=LONGEST)
-
-        cls.addClassCleanup(end)
-        return cluster.stdout.readline().strip()
+        cls.addClassCleanup(process.communicate, timeout=LONGEST)
+        return process
 
     def by_workers(self, *words, given="", **names):
-        return support.run([self.python, PYTHON / "bin" / "bw-shards", *words], given,
-                           cwd=self.folder, **names)
-
-    def in_turn(self, *calls):
-        """Runs bw-shards with each of these arguments. Returns what the calls left."""
-        done = support.run([self.python, "-c", IN_TURN, PYTHON], json.dumps(calls),
-                           cwd=self.folder)
-        return [support.Done(int(status), *((self.folder / f"{name}-{number}").read_text()
-                                            for name in ("out", "err")))
-                for number, status in enumerate(done.out.split())]
+        """Runs bw-shards, and returns what it left."""
+        print(json.dumps([words, given, names]), file=self.calls.stdin, flush=True)
+        status = self.calls.stdout.readline()
+        return support.Done(int(status), *((self.folder / name).read_text()
+                                           for name in ("out", "err")))
 
     def test_a_worker_that_dies(self):
         """Its shard is run again."""
@@ -464,16 +462,13 @@ class Workers(Loaded):
         damaged = self.folder / "damaged" / "shard-001.bw"
         damaged.write_bytes(damaged.read_bytes()[:-1] + b"\1")
         count = "SELECT COUNT(*) FROM t"
-        calls = [["ask", name, count, "--scheduler", address]
-                 for name, address in (("missing", self.address), ("damaged", self.address),
-                                       ("s", "nothing"))]
-        came = self.in_turn(*calls)
-        self.assertEqual(len(came), len(calls))
-        for done, (told, statuses) in zip(came, (
-                ("missing/shard-003.bw: No such file or directory", (3, 5)),
-                ("damaged/shard-001.bw: isn't the table that", (3, 5)),
-                ("the scheduler nothing can't be used", (3,)))):
+        for name, address, told, statuses in (
+                ("missing", self.address, "missing/shard-003.bw: No such file or directory",
+                 (3, 5)),
+                ("damaged", self.address, "damaged/shard-001.bw: isn't the table that", (3, 5)),
+                ("s", "nothing", "the scheduler nothing can't be used", (3,))):
             with self.subTest(told):
+                done = self.by_workers("ask", name, count, "--scheduler", address)
                 self.assertIn(done.status, statuses)
                 self.assertEqual(done.out, "")
                 self.assertIn(told, done.err)
