@@ -534,8 +534,8 @@ class Interrupted(Results):
         seconds = sample(2, 4)
         done = subprocess.run(
             [sys.executable, "-c", INTERRUPTED, "5", str(seconds),
-             *(self.folder / name for name in self.tables)], capture_output=True, text=True, env={**os.environ, "PYTHONPATH": str(PYTHON)},
-            check=False)
+             *(self.folder / name for name in self.tables)], capture_output=True, text=True,
+            env={**os.environ, "PYTHONPATH": str(PYTHON)}, check=False)
         # Python itself prints what a signal raises in a finalizer
         self.assertEqual((done.returncode, done.stdout), (0, "True\n"), done.stderr)
 
