@@ -220,12 +220,15 @@ def run_tool(name: str | pathlib.Path, words: list[str], cwd: Any,
     status: Any = 1
     try:
         if isinstance(name, pathlib.Path):
+            sys.path.insert(0, str(name.parent))
             runpy.run_path(str(name), run_name="__main__")
             status = 0
         else:
             status = importlib.import_module(f"bwtools._cli.{TOOLS[name]}").main()
     except SystemExit as ended:
         status = ended.code
+        if isinstance(status, str):
+            print(status, file=sys.stderr)
     except BaseException:
         traceback.print_exc()
     for file in (sys.stdout, sys.stderr):

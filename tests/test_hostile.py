@@ -1,4 +1,4 @@
-"""A small sample of `scripts/hostile`, which attacks the Python package; a larger one in the whole."""
+"""A sample of `scripts/hostile`, which attacks the Python package."""
 import re
 
 from tests import support
@@ -7,7 +7,8 @@ from tests import support
 class Sample(support.TestCase):
     def test_each_attack(self):
         script = support.ROOT / "scripts" / "hostile"
-        done = support.tool(script, "--share", support.IS_WHOLE and ".05" or ".004", "--seed", "94")
+        share = ".05" if support.IS_WHOLE else ".0035"
+        done = support.tool(script, "--share", share, "--seed", "94")
         self.assertEqual((done.status, done.err), (0, ""), done.out)
         self.assertRegex(done.out, r"\n[0-9]{3,} trials, 0 faults\n\Z")
         listed = support.run([script, "--list"])

@@ -67,9 +67,10 @@ class Trees(support.TestCase):
         (self.folder / "dist" / "RECORD").write_text(
             "".join(f"{name} {value}\n" for name, value in record.items()))
 
-    def run_in(self, *words, kit=None, gate=GATE, **names):
-        """Runs a command in the tree. Returns its status and its lines. If `kit` is given, a
-        stand-in for rt prints it as its version, and else does `gate`."""
+    def run_in(self, *words, kit=None, gate=GATE, is_fork=False, **names):
+        """Runs a command in the tree, or a script of Python in a fork of this process. Returns its
+        status and its lines. If `kit` is given, a stand-in for rt prints it as its version, and
+        else does `gate`."""
         tools = self.folder / "tools"
         shutil.rmtree(tools)
         tools.mkdir()
@@ -78,9 +79,14 @@ class Trees(support.TestCase):
                                  f'[ "$*" != version ] || {{ echo "{kit}"; exit; }}\n{gate}')
         # the module site, of no use here, takes longer to start than a small test
         support.write_script(tools / "python3", f'exec "{sys.executable}" -S "$@"')
+        names = {"PATH": f"{tools}:/usr/bin:/bin", **names}
+        if is_fork:
+            run = support.Running(self.folder / words[0], *words[1:], names=names, is_mixed=True,
+                                  cwd=self.folder).done()
+            return run.status, run.out.splitlines()
         done = subprocess.run(words, cwd=self.folder, stdin=subprocess.DEVNULL, text=True,
                               stdout=subprocess.PIPE, stderr=subprocess.STDOUT, check=False,
-                              env={"PATH": f"{tools}:/usr/bin:/bin", **names})
+                              env=names)
         return done.returncode, done.stdout.splitlines()
 
 
@@ -105,7 +111,7 @@ class Shipped(Trees):
 
     def check(self, status, line, *words, kit):
         """Tests the status, and a line or the beginning of one."""
-        came, lines = self.run_in("scripts/ship", "--check", *words, kit=kit)
+        came, lines = self.run_in("scripts/ship", "--check", *words, kit=kit, is_fork=True)
         self.assertEqual(came, status, lines)
         self.assertTrue(any(each.startswith(line) for each in lines), lines)
 
@@ -183,12 +189,12 @@ class Check(Trees):
     def test_wrong_arguments(self):
         for words in (["--quick"], ["--proof", "--all"], ["--proof", "test_small"]):
             with self.subTest(words):
-                status, lines = self.run_in("./check", *words)
+                status, lines = self.run_in("./check", *words, is_fork=True)
                 self.assertEqual(status, 2)
                 self.assertRegex(lines[0], r"\Ausage: ./check ")
         for word in ("--proof", "--all"):
             with self.subTest(word):
-                status, lines = self.run_in("./check", word)
+                status, lines = self.run_in("./check", word, is_fork=True)
                 self.assertEqual((status, len(lines)), (2, 1))
                 self.assertIn("Rattle kit", lines[0])
 

@@ -531,7 +531,7 @@ print(min(counts) > 9)
 
 class Interrupted(Results):
     def test_interrupts_at_any_moment_cost_one_statement_each(self):
-        seconds = sample(2, 4)
+        seconds = sample(1, 4)
         done = subprocess.run(
             [sys.executable, "-c", INTERRUPTED, "5", str(seconds),
              *(self.folder / name for name in self.tables)], capture_output=True, text=True,
