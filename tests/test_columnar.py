@@ -72,7 +72,7 @@ class Answers(Loaded):
                 by_rows, by_columns = self.load(count, layout)
                 asked = [f"SELECT {self.chance.choice(ITEMS)} FROM t "
                          f"WHERE {conditions.condition(2)}"
-                         for _ in range(support.sample(3, 6))]
+                         for _ in range(support.sample(2, 6))]
                 for sql in asked:
                     with self.subTest(sql, count=count, layout=layout):
                         self.assertEqual(bw("query", "--stats", by_rows, sql),

@@ -198,7 +198,7 @@ class Numbers(Conditions):
     def check(self, sign):
         rows = [[number, "NULL" if number % 22 == 21 else number % 22 - 10]
                 for number in range(256)]
-        numbers = {-1, 0, 1, 255, 256, *support.sample_of(range(-1, 257), 50, COMPARE.index(sign))}
+        numbers = {-1, 0, 1, 255, 256, *support.sample_of(range(-1, 257), 30, COMPARE.index(sign))}
         self.compare(COMMON, rows, [("COUNT(*), SUM(b)", f"a {sign} {number}")
                                     for number in sorted(numbers)])
         self.compare(COMMON, rows, [("COUNT(*), SUM(a)", f"{number} {sign} b")
@@ -214,7 +214,7 @@ class Listed(Conditions):
         self.compare(columns, rows, [("COUNT(*)", condition) for condition in conditions])
 
 
-@support.each([(f"seed {seed}", seed) for seed in range(support.sample(4, 8))])
+@support.each([(f"seed {seed}", seed) for seed in range(support.sample(3, 8))])
 class Drawn(Conditions):
     """Drawn conditions."""
 
@@ -235,7 +235,7 @@ class Long(Conditions):
     def check(self, _, least, most):
         chance = random.Random(least)
         rows = drawn.whole_rows(chance, drawn.WIDE, NEAR, 1100)
-        conditions, count = drawn.Conditions(chance), support.sample(12, 40)
+        conditions, count = drawn.Conditions(chance), support.sample(8, 40)
         asked = [("COUNT(*), SUM(c), MIN(x)",
                   conditions.long_condition(chance.randint(least, most))) for _ in range(count)]
         served = self.compare(drawn.WIDE, rows, asked, "program|rows").count("program")

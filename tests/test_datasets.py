@@ -229,12 +229,12 @@ class Datasets(reference.Asked):
         self.set_up(path, data, table, *words)
         self.assertEqual(kept(path, "kind"), [column.kind for column in table.all])
         served = 0
-        for number in range(100 if IS_WHOLE else 20):
+        for number in range(100 if IS_WHOLE else 10):
             chance = random.Random(f"{dataset.name} {number}")
             sql, instead = drawn.Statements(table, chance, number % 3 > 0).statement()
             with self.subTest(sql):
                 served += self.ask(sql, instead)
-        self.assertGreater(served, 10)
+        self.assertGreater(served, 5)
 
 
 def add_tests():

@@ -40,7 +40,7 @@ STATEMENTS = ["SELECT zz FROM trips", SQL, SQL.replace("SUM", "MAX"), ROWS,
               "SELECT COUNT(*) FROM trips"]
 REFUSED = b"bw: 801 out of memory"
 # the first twenty allocations are refused, and one in so many of the others
-EVERY = 1 if support.IS_WHOLE else 4
+EVERY = 1 if support.IS_WHOLE else 6
 
 
 class Refusing(support.TestCase):

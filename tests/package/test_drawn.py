@@ -26,7 +26,7 @@ class Joins(Compared):
                      [[READERS[each](field) if field else None for field, each in zip(row, types)]
                       for row in rows])
         ways = {1: 0, 2: 0}
-        drawn_ones = support.sample(240, 600)
+        drawn_ones = support.sample(140, 600)
         for number in range(drawn_ones):
             if number % 30 == 0:
                 connection = bwtools.connect(folder / "t", folder / "u")
@@ -52,7 +52,7 @@ class Tables(Asked):
                  for word in ("--text", each.name)]
         self.set_up(self.new_folder() / "t", csv_of(table.lines()), table, *words,
                     *(("--shards", "3") if seed % 3 == 2 else ()))
-        served, count = 0, support.sample(25, 60)
+        served, count = 0, support.sample(18, 60)
         for number in range(count):
             statements = drawn.Statements(table, random.Random(f"{seed} {number}"), number % 3 > 0)
             sql, instead = statements.statement()

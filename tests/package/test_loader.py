@@ -81,7 +81,7 @@ def found(data, words, names=()):
 class Together(unittest.TestCase):
     def test_as_one_by_one(self):
         draw, kinds = random.Random(10), set()
-        for _ in range(sample(30, 70)):
+        for _ in range(sample(20, 70)):
             words = ("--heading", *draw.choice(WORDS))
             data, _ = drawn_text(draw)
             wanted = found(data, words, ALONE)
@@ -97,7 +97,7 @@ class Together(unittest.TestCase):
 
     def test_fields_come_back(self):
         """With the two options that keep all, each field that isn't null is what it was."""
-        draw, count, files = random.Random(11), 0, sample(30, 70)
+        draw, count, files = random.Random(11), 0, sample(20, 70)
         for _ in range(files):
             data, rows = drawn_text(draw)
             words = ("--heading", "--keep-spelling", "--keep-blanks")
@@ -124,7 +124,7 @@ class Together(unittest.TestCase):
 
         for patch in (mock.patch("bwtools.loader.encode.feed_of", anew),
                       mock.patch("bwtools.loader.table.MARKED", frozenset({0, 1}))):
-            for _ in range(sample(12, 30)):
+            for _ in range(sample(8, 30)):
                 words = ("--heading", *draw.choice(WORDS))
                 data, _ = drawn_text(draw)
                 wanted = found(data, words)
@@ -134,7 +134,7 @@ class Together(unittest.TestCase):
     def test_what_is_read_here(self):
         """Short rows, escaped signs, and marks of several bytes."""
         draw = random.Random(17)
-        for _ in range(sample(8, 20)):
+        for _ in range(sample(5, 20)):
             data, rows = drawn_text(draw, ";")
             rows = [[*row, draw.choice("123")] for row in rows]
 
@@ -163,7 +163,7 @@ class Together(unittest.TestCase):
 
     def test_other_encodings(self):
         draw = random.Random(13)
-        for _ in range(sample(8, 20)):
+        for _ in range(sample(5, 20)):
             words = ("--heading", *draw.choice(WORDS))
             data, _ = drawn_text(draw)
             wanted = found(data, words)
@@ -212,7 +212,7 @@ class Parts(TestCase):
         return many[2]
 
     def test_drawn(self):
-        draw, self.folder, files = random.Random(14), self.new_folder(), sample(12, 30)
+        draw, self.folder, files = random.Random(14), self.new_folder(), sample(8, 30)
         counts = [self.both(drawn_text(draw)[0], draw.choice([1, 2, 3, 7]), "--heading",
                             *draw.choice(WORDS)) for _ in range(files)]
         self.assertGreater(sum(bool(count) for count in counts), files // 2)
@@ -320,7 +320,7 @@ class Dictionaries(TestCase):
 
     def test_merged(self):
         draw, folder = random.Random(15), self.new_folder()
-        for turn in range(sample(30, 60)):
+        for turn in range(sample(20, 60)):
             with mock.patch.object(dictionary, "FIELDS_A_BLOCK", draw.choice([1, 2, 5, 100])), \
                     mock.patch.object(dictionary, "BYTES_A_BLOCK", draw.choice([3, 100])):
                 listed = []

@@ -313,7 +313,7 @@ class Named(unittest.TestCase):
         with zipfile.ZipFile(out, "w") as archive:
             archive.writestr("a.csv", "a,b\n" + "1,x\n" * 20)
         draw = random.Random(93)
-        for _ in range(support.sample(70, 200)):
+        for _ in range(support.sample(40, 200)):
             data = bytearray(out.getvalue())
             for _ in range(draw.randrange(1, 4)):
                 place = draw.choice([draw.randrange(40), draw.randrange(len(data) - 80, len(data))])
@@ -396,7 +396,7 @@ class Drawn(unittest.TestCase):
     def test_separators(self):
         draw, loaded = random.Random(93), 0
         fields = ["a", "b c", "x;y", "1,5", "p|q", "z: u", 'say "a"', "", "one\ntwo", "t\tu"]
-        count = support.sample(50, 150)
+        count = support.sample(30, 150)
         for _ in range(count):
             table = self.table(draw, draw.sample(fields, draw.choice([2, 3, 5])))
             out = io.StringIO()
@@ -413,7 +413,7 @@ class Drawn(unittest.TestCase):
 
     def test_runs_of_blanks(self):
         draw = random.Random(94)
-        for _ in range(support.sample(30, 80)):
+        for _ in range(support.sample(20, 80)):
             table = self.table(draw, ["a", "'b  c'", "u,v", "x;y", "''", "'it''s'"])
             table[0] = [f"h{place}" for place in range(len(table[0]))]
             lines = ["".join(draw.choice([" ", "  ", "\t", " \t "]) + field for field in row)
@@ -428,7 +428,7 @@ class Drawn(unittest.TestCase):
 
     def test_changed_rows(self):
         draw = random.Random(95)
-        for _ in range(support.sample(25, 80)):
+        for _ in range(support.sample(16, 80)):
             heading, *rows = self.table(draw, ["a", "b c", 'say "a"', "", "one\ntwo", "x,y"])
             ends = [draw.randrange(1, len(heading) + 3) for _ in rows]
             width = max([len(heading), *ends])
@@ -463,7 +463,7 @@ FIELDS = ["1", "-0", "+5", "007", "1.50", "2.0", "1.25", "1e5", "1E+3", "1.5e3",
 
 class Spellings(unittest.TestCase):
     def test_all_are_kept_or_named(self):
-        draw, loaded, count = random.Random(93), 0, support.sample(90, 300)
+        draw, loaded, count = random.Random(93), 0, support.sample(60, 300)
         for _ in range(count):
             kinds = draw.sample(FIELDS, draw.choice([1, 2, 2, 3, 4]))
             fields = draw.choices(kinds, k=draw.randrange(1, 7))

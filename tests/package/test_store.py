@@ -155,7 +155,7 @@ class Foreign(Files):
         zeros = [at for at, byte in enumerate(data) if not byte]
         flips = [(at, bit) for at, byte in enumerate(data) if byte for bit in range(8)]
         flips += [(at, drawn.randrange(8)) for at in drawn.sample(zeros, 500)]
-        count, flips = 0, sample_of(flips, 600, 94)
+        count, flips = 0, sample_of(flips, 400, 94)
         for at, bit in flips:
             self.overwrite(at, data[at] ^ 1 << bit)
             try:
