@@ -116,7 +116,8 @@ def import_package() -> None:
     for programs that are started and for the next run."""
     for folder in (PYTHON / "bwtools", ROOT / "tests"):
         if os.access(folder, os.W_OK):
-            compileall.compile_dir(folder, quiet=2)
+            # all at once if there is none, by all processors
+            compileall.compile_dir(folder, quiet=2, workers=int((folder / "__pycache__").exists()))
     for path in sorted((PYTHON / "bwtools").rglob("*.py")):
         name = ".".join(path.relative_to(PYTHON).with_suffix("").parts)
         importlib.import_module(name.removesuffix(".__init__"))

@@ -72,14 +72,19 @@ class Sources(support.TestCase):
             self.skipTest("Python: install ruff or flake8")
 
     def check_by_flake8(self, program):
-        """Checks the files that it hasn't found faultless before: it is slow."""
+        """Checks the files that changed since it was run here: it is slow. If it wasn't, it checks
+        a sample, which the content of the files draws."""
         kept = ROOT / "out" / "flake8"
         rules = f"{program} {os.stat(program).st_mtime_ns}".encode() + \
             (ROOT / ".flake8").read_bytes()
         sums = {name: hashlib.sha256(rules + (ROOT / name).read_bytes()).hexdigest()
                 for name in sources()["Python"]}
-        known = set(kept.read_text("ascii").split()) if kept.exists() else set()
+        is_first = support.IS_WHOLE or not kept.exists()
+        known = set() if is_first else set(kept.read_text("ascii").split())
         left = [name for name, each in sums.items() if each not in known]
+        if is_first and not support.IS_WHOLE:
+            left = [name for name in left if int(sums[name], 16) % 4 == 0]
+            self.assertGreater(len(left), 10)
         if left:
             self.say_nothing([program, *left])
         if left and os.access(kept.parent, os.W_OK):

@@ -33,37 +33,42 @@ exec "{1}" "$@"
 NUMBERED = """n=1; mkdir -p "{0}.calls"
 while ! mkdir "{0}.calls/$n" 2>/dev/null; do n=$((n + 1)); done
 """
+# a cluster, beside which a fork runs bw-shards once for each line of a pipe, which has arguments,
+# input and environment, and writes the status to another one: Dask is imported once
 CLUSTER = """
-import logging, sys, tempfile
+import json, logging, os, sys, tempfile
 from distributed import LocalCluster
+sys.path.insert(0, sys.argv[1])
+from bwtools._cli import shards
+
+def run_here(words, given, names):
+    with open("in", "w") as file:
+        file.write(given)
+    os.dup2(os.open("in", os.O_RDONLY), 0)
+    for place, name in ((1, "out"), (2, "err")):
+        os.dup2(os.open(name, os.O_WRONLY | os.O_CREAT | os.O_TRUNC, 0o600), place)
+    sys.argv, sys.stdin = ["bw-shards", *words], open(0, closefd=False)
+    os.environ.update(names)
+    sys.exit(shards.main())
+
+def serve(lines, statuses):
+    for line in os.fdopen(lines):
+        if not os.fork():
+            run_here(*json.loads(line))
+        os.write(statuses, b"%d\\n" % os.waitstatus_to_exitcode(os.wait()[1]))
+
 if __name__ == "__main__":
+    server = os.fork()
+    if not server:
+        serve(int(sys.argv[2]), int(sys.argv[3]))
+        sys.exit()
     with tempfile.TemporaryDirectory() as folder, LocalCluster(
             n_workers=2, threads_per_worker=1, host="127.0.0.1", scheduler_port=0,
             dashboard_address=None, local_directory=folder,
             silence_logs=logging.CRITICAL) as cluster:
         print(cluster.scheduler_address, flush=True)
         sys.stdin.read()
-"""
-
-# runs bw-shards once for each line, which has the arguments, the input and the environment, and
-# prints the status; Dask is imported once
-IN_TURN = """
-import json, os, sys
-sys.path.insert(0, sys.argv[1])
-import distributed
-from bwtools._cli import shards
-for line in sys.stdin:
-    words, given, names = json.loads(line)
-    with open("in", "w") as file:
-        file.write(given)
-    if not os.fork():
-        os.dup2(os.open("in", os.O_RDONLY), 0)
-        for place, name in ((1, "out"), (2, "err")):
-            os.dup2(os.open(name, os.O_WRONLY | os.O_CREAT | os.O_TRUNC, 0o600), place)
-        sys.argv, sys.stdin = ["bw-shards", *words], open(0, closefd=False)
-        os.environ.update(names)
-        sys.exit(shards.main())
-    print(os.waitstatus_to_exitcode(os.wait()[1]), flush=True)
+    os.waitpid(server, 0)
 """
 
 # statements of each kind, without SELECT: with results of rows and of totals, and some that select
@@ -412,26 +417,24 @@ class Workers(Loaded):
         cls.python = python_with_dask()
         if not cls.python:
             raise unittest.SkipTest("bw-shards by Dask: install python3-distributed")
-        # a cluster of two workers, which are forks of a process that has imported what they need
         (cls.folder / "cluster").write_text(CLUSTER)
-        cluster = cls.run_beside("cluster")
-        cls.calls = cls.run_beside("-c", IN_TURN, PYTHON)
+        (lines, cls.lines), (cls.statuses, statuses) = os.pipe(), os.pipe()
+        # workers are forks of a process that has imported what they need
+        cluster = subprocess.Popen(
+            [cls.python, "cluster", PYTHON, str(lines), str(statuses)], stdin=subprocess.PIPE,
+            stdout=subprocess.PIPE, stderr=subprocess.DEVNULL, text=True, cwd=cls.folder,
+            env={**os.environ, "DASK_DISTRIBUTED__WORKER__MULTIPROCESSING_METHOD": "forkserver"},
+            pass_fds=[lines, statuses])
+        cls.addClassCleanup(cluster.communicate, timeout=LONGEST)
+        cls.addClassCleanup(list, map(os.close, (cls.lines, cls.statuses)))
+        for number in (lines, statuses):
+            os.close(number)
         cls.address = cluster.stdout.readline().strip()
-
-    @classmethod
-    def run_beside(cls, *words):
-        """Runs a Python program until the end of the tests."""
-        process = subprocess.Popen(
-            [cls.python, *words], stdin=subprocess.PIPE, stdout=subprocess.PIPE,
-            stderr=subprocess.DEVNULL, text=True, cwd=cls.folder,
-            env={**os.environ, "DASK_DISTRIBUTED__WORKER__MULTIPROCESSING_METHOD": "forkserver"})
-        cls.addClassCleanup(process.communicate, timeout=LONGEST)
-        return process
 
     def by_workers(self, *words, given="", **names):
         """Runs bw-shards, and returns what it left."""
-        print(json.dumps([words, given, names]), file=self.calls.stdin, flush=True)
-        status = self.calls.stdout.readline()
+        os.write(self.lines, json.dumps([words, given, names]).encode() + b"\n")
+        status = os.read(self.statuses, 99)
         return support.Done(int(status), *((self.folder / name).read_text()
                                            for name in ("out", "err")))
 
