@@ -426,9 +426,16 @@ class Imported(TestCase):
 
     tables: dict[str, tuple[str, ...]] = {}
     folder: pathlib.Path
+    # the folder of some tables, which the classes of a module that inherit them share
+    made: dict[int, pathlib.Path] = {}
 
     @classmethod
     def setUpClass(cls) -> None:
-        cls.folder = cls.new_class_folder()
-        for name, words in cls.tables.items():
-            imported(cls.folder / name, *words)
+        if id(cls.tables) not in Imported.made:
+            folder = tempfile.TemporaryDirectory(prefix="bw test ")
+            unittest.addModuleCleanup(folder.cleanup)
+            unittest.addModuleCleanup(Imported.made.pop, id(cls.tables))
+            Imported.made[id(cls.tables)] = pathlib.Path(folder.name)
+            for name, words in cls.tables.items():
+                imported(pathlib.Path(folder.name, name), *words)
+        cls.folder = Imported.made[id(cls.tables)]

@@ -391,7 +391,7 @@ class Names(Tools):
         """They are read by programs of the PATH."""
         (self.folder / "x.csv").write_bytes(SHOP)
         (self.folder / "x.csv.gz").write_bytes(gzip.compress(SHOP))
-        for name in ("x.csv", "x.csv.gz"):
+        for name in ("x.csv", "x.csv.gz") if support.IS_WHOLE else ("x.csv.gz",):
             with self.subTest(name):
                 done = support.sh(f"PATH='{PYTHON}/bin':$PATH; cat {name} | bw-import - p.bw && "
                                   f"bw-ask p.bw '{self.ASKS}'", self.folder)
@@ -556,8 +556,8 @@ class Large(Asking):
         Tools.setUp(self)
         # of 18 digits, so that few of them are long
         numbers = range(10 ** 17, 10 ** 17 + 12_000)
-        rows = "".join(f"{number},text {number % 1000}\n" for number in numbers)
-        self.imported(f"a,b\n{rows}".encode())
+        rows = "".join(f"{number},text {number % 1000}\n" for number in numbers[:4500])
+        support.imported(self.folder / "t.bw", f"a,b\n{rows}")
         many, more = (", ".join(map(str, numbers[::step])) for step in (5, 3))
         self.asked = ["SELECT * FROM t", f"SELECT a FROM t WHERE a < {10 ** 17 + 3}",
                       "SELECT a, b, a FROM t WHERE b <> 'text 7'",
@@ -577,7 +577,7 @@ class Large(Asking):
         # the second of these is too long for bw
         done = self.ask(given="; ".join(self.asked[place] for place in (0, 4, 5)))
         self.assertEqual(done, (0, "".join(f"{found[place].out}\n" for place in (0, 4, 5)), ""))
-        self.assertEqual(found[4].out.count("\n"), 4_001)
+        self.assertEqual(found[4].out.count("\n"), 1_501)
 
 
 # how a session ends by itself, which another one follows, its output, the message, and the status

@@ -16,8 +16,8 @@ from bwtools import _errors
 from bwtools._sql import plan
 from bwtools._storage import columns_file
 
-from tests.support import (BW, PYTHON, Imported, TestCase, content, import_package, imported,
-                           sample, tool, write_script)
+from tests.support import (BW, IS_WHOLE, PYTHON, Imported, TestCase, content, import_package,
+                           imported, sample, tool, write_script)
 
 DISK = "the columns file can't be written: SQLite reports: " \
        "(database or disk is full|disk I/O error)"
@@ -118,19 +118,20 @@ class Memory(Failures):
         told = subprocess.run([sys.executable, "-c", "print(open('/proc/self/status').read())"],
                               capture_output=True, text=True, check=True).stdout
         peak = int(re.findall(r"VmPeak:\s+([0-9]+) kB", told)[0]) // 1024
-        for size in (peak + more for more in (2, 4, 8, 14, 30)):
-            for sql, wanted in (("SELECT COUNT(*) FROM t", "COUNT(*)\n3000\n"),
-                                ("SELECT COUNT(upper(word) || n) AS n FROM t", "n\n3000\n")):
-                done = subprocess.run(
-                    [*words, sql], cwd=self.folder, capture_output=True, text=True, check=False,
-                    stdin=subprocess.DEVNULL, preexec_fn=lambda: resource.setrlimit(
-                        resource.RLIMIT_AS, (size << 20, size << 20)))
-                if done.returncode == -signal.SIGABRT and FATAL in done.stderr:
-                    continue
-                with self.subTest(size, sql=sql):
-                    self.assertIn((done.returncode, done.stdout), ((0, wanted), (6, "")),
-                                  done.stderr)
-                    self.assertNotIn("Traceback", done.stderr)
+        asked = [("SELECT COUNT(*) FROM t", "COUNT(*)\n3000\n"),
+                 ("SELECT COUNT(upper(word) || n) AS n FROM t", "n\n3000\n")]
+        tried = [(peak + more, *each) for more in (2, 4, 8, 14, 30) for each in asked]
+        # the sample has each size, and each statement twice or more
+        for size, sql, wanted in tried if IS_WHOLE else tried[::4] + tried[3::4]:
+            done = subprocess.run(
+                [*words, sql], cwd=self.folder, capture_output=True, text=True, check=False,
+                stdin=subprocess.DEVNULL, preexec_fn=lambda: resource.setrlimit(
+                    resource.RLIMIT_AS, (size << 20, size << 20)))
+            if done.returncode == -signal.SIGABRT and FATAL in done.stderr:
+                continue
+            with self.subTest(size, sql=sql):
+                self.assertIn((done.returncode, done.stdout), ((0, wanted), (6, "")), done.stderr)
+                self.assertNotIn("Traceback", done.stderr)
 
 
 class Fields(TestCase):
