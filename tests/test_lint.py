@@ -99,7 +99,7 @@ class Sources(support.TestCase):
                     .encode() + (ROOT / ".flake8").read_bytes())
         left = kept.left
         if kept.is_first and not support.IS_WHOLE:
-            left = [name for name in left if int(kept.sums[name], 16) % 4 == 0]
+            left = [name for name in left if int(kept.sums[name], 16) % 6 == 0]
             self.assertGreater(len(left), 10)
         if left:
             self.say_nothing([program, *left])
