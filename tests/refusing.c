@@ -1,5 +1,6 @@
 /* Makes each allocation of a program fail, in one run of it: loaded before the C library, it forks the program at each call of
- * malloc and realloc. In one child this call fails, in another this call and all after it. What each child wrote, its status, and
+ * malloc and realloc, or, after the first calls, at a sample of them, of which EVERY in the environment says how large it is.
+ * In one child this call fails, in another this call and all after it. What each child wrote, its status, and
  * what became of the file OUT is appended to the file LOG, as "CALL LATER STATUS OUT ERR FILE\n" and then the bytes of its
  * output, of its errors and of the file, whose numbers these are. Afterwards all is as it was, and the program goes on. Its output,
  * its errors and its input must be files. */
@@ -14,15 +15,16 @@
 #include <sys/wait.h>
 #include <unistd.h>
 
-enum { MOST_FILES = 64, MOST_BYTES = 1 << 20 };
+enum { MOST_FILES = 64, MOST_BYTES = 1 << 20, FIRST = 20 };
 static enum { LATER, DRIVER, ONE, ALL } role;
 static int log_file;
-static unsigned long calls;
+static unsigned long calls, every = 1;
 static const char *out_path;
 
 __attribute__((constructor)) static void begin(void) {
     const char *path = getenv("LOG");
     out_path = getenv("OUT");
+    if (getenv("EVERY")) every = strtoul(getenv("EVERY"), 0, 10);
     if (!path) return;
     log_file = fcntl(open(path, O_WRONLY | O_CREAT | O_APPEND, 0600), F_DUPFD, MOST_FILES);
     role = DRIVER;
@@ -92,8 +94,9 @@ static int is_refused(void) {
     if (role == ALL) return 1;
     if (role != DRIVER) return 0;
     int before = errno;
+    /* one in `every`, in no order that a loop of the program has */
+    if (++calls > FIRST && (calls * 2654435761u >> 7) % every) return 0;
     role = LATER;
-    calls++;
     if (forks(0) || forks(1)) return 1;
     role = DRIVER;
     errno = before;

@@ -11,7 +11,9 @@ import importlib
 import io
 import os
 import pathlib
+import random
 import re
+import runpy
 import shutil
 import signal
 import subprocess
@@ -43,6 +45,8 @@ LATER = ("argparse", "csv", "decimal", "difflib", "fractions", "hashlib", "json"
          "sqlite3", "subprocess", "threading", "unicodedata")
 # how many seconds a call may take
 LONGEST = 120
+# whether tests that draw their cases draw all of them: ./check --whole
+IS_WHOLE = bool(os.environ.get("WHOLE"))
 
 # if standard input is closed, no other file may get its number
 try:
@@ -112,13 +116,14 @@ def import_package() -> None:
     for programs that are started and for the next run."""
     for folder in (PYTHON / "bwtools", ROOT / "tests"):
         if os.access(folder, os.W_OK):
-            compileall.compile_dir(folder, quiet=2)
+            # all at once if there is none, by all processors
+            compileall.compile_dir(folder, quiet=2, workers=int((folder / "__pycache__").exists()))
     for path in sorted((PYTHON / "bwtools").rglob("*.py")):
         name = ".".join(path.relative_to(PYTHON).with_suffix("").parts)
         importlib.import_module(name.removesuffix(".__init__"))
     for name in LATER:
         importlib.import_module(name)
-    import_.parser_of().format_usage()
+    import_parser().format_usage()
     with tempfile.TemporaryDirectory() as name:
         table = imported(pathlib.Path(name, "t"), "a,b,c,d,e,f\n1,1.5,2024-05-01,12:30,true,x\n"
                                                   "-2,,2024-05-02,12:31,false,1e5\n")
@@ -132,12 +137,13 @@ def import_package() -> None:
 
 
 class Running:
-    """A Python program in a fork of this process, which saves the start of another Python. Its
-    files are a program's own: input of these bytes, or an open file of this number. Errors may
-    be written to the same file as output."""
+    """A Python program, or a script of this path, in a fork of this process, which saves the start
+    of another Python. Its files are a program's own: input of these bytes, or an open file of this
+    number. Errors may be written to the same file as output."""
 
-    def __init__(self, name: str, *words: Any, given: bytes | str | int = b"", cwd: Any = None,
-                 names: dict[str, str] | None = None, is_mixed: bool = False) -> None:
+    def __init__(self, name: str | pathlib.Path, *words: Any, given: bytes | str | int = b"",
+                 cwd: Any = None, names: dict[str, str] | None = None,
+                 is_mixed: bool = False) -> None:
         import_package()
         self.files = [tempfile.TemporaryFile() for _ in range(3)]
         places = [file.fileno() for file in self.files]
@@ -173,9 +179,9 @@ class Running:
         return Done(status, *told[1:])
 
 
-def tool(name: str, *words: Any, given: bytes | str = b"", cwd: Any = None,
+def tool(name: str | pathlib.Path, *words: Any, given: bytes | str = b"", cwd: Any = None,
          **names: str) -> Done:
-    """Runs a Python program in a fork of this process."""
+    """Runs a Python program, or a script, in a fork of this process."""
     return Running(name, *words, given=given, cwd=cwd, names=names).done()
 
 
@@ -195,8 +201,9 @@ def in_fork(act: Callable[[], Any]) -> int:
     return process
 
 
-def run_tool(name: str, words: list[str], cwd: Any, names: dict[str, str]) -> Any:
-    """Runs a Python program, in a process of its own. Returns its status."""
+def run_tool(name: str | pathlib.Path, words: list[str], cwd: Any,
+             names: dict[str, str]) -> Any:
+    """Runs a Python program or a script, in a process of its own. Returns its status."""
     # nohup, or a shell's &, makes a program ignore them
     signal.signal(signal.SIGINT, signal.default_int_handler)
     for number in (signal.SIGHUP, signal.SIGTERM):
@@ -207,15 +214,22 @@ def run_tool(name: str, words: list[str], cwd: Any, names: dict[str, str]) -> An
     gc.disable()
     os.chdir(cwd or os.getcwd())
     os.environ.update(names)
-    sys.argv = [name, *words]
+    sys.argv = [str(name), *words]
     sys.stdin = open(0, encoding="utf-8", closefd=False)
     sys.stdout = open(1, "w", encoding="utf-8", closefd=False)
     sys.stderr = open(2, "w", 1, "utf-8", "backslashreplace", closefd=False)
     status: Any = 1
     try:
-        status = importlib.import_module(f"bwtools._cli.{TOOLS[name]}").main()
+        if isinstance(name, pathlib.Path):
+            sys.path.insert(0, str(name.parent))
+            runpy.run_path(str(name), run_name="__main__")
+            status = 0
+        else:
+            status = importlib.import_module(f"bwtools._cli.{TOOLS[name]}").main()
     except SystemExit as ended:
         status = ended.code
+        if isinstance(status, str):
+            print(status, file=sys.stderr)
     except BaseException:
         traceback.print_exc()
     for file in (sys.stdout, sys.stderr):
@@ -325,6 +339,22 @@ def options(*words: str) -> argparse.Namespace:
     return parsed(parser, words)
 
 
+def sample(few: int, whole: int, is_whole: bool = IS_WHOLE) -> int:
+    """Returns how many cases a test draws: few, the first ones of its seed, or the whole."""
+    if not 0 < few <= whole:
+        raise ValueError(f"{few} isn't a sample of {whole}")
+    return whole if is_whole else few
+
+
+Case = TypeVar("Case")
+
+
+def sample_of(cases: Sequence[Case], few: int, seed: int, is_whole: bool = IS_WHOLE) -> list[Case]:
+    """Returns as many cases as `sample`, drawn by a seed, in their order."""
+    count = sample(few, len(cases), is_whole)
+    return [cases[at] for at in sorted(random.Random(seed).sample(range(len(cases)), count))]
+
+
 Made = TypeVar("Made")
 
 
@@ -372,12 +402,18 @@ def described(column: Any) -> tuple[Any, ...]:
             None if column.kind.listed is None else list(column.kind.listed))
 
 
+@functools.lru_cache(None)
+def import_parser() -> argparse.ArgumentParser:
+    """Returns what reads the arguments of bw-import: making it takes as long as a small import."""
+    return import_.parser_of()
+
+
 def imported(path: pathlib.Path, data: str, *words: str) -> pathlib.Path:
     """Imports a CSV of these characters as the table file, or the folder, of a path, which it
     returns."""
     raw = path.with_name(f"{path.name}.csv")
     raw.write_bytes(data.encode())
-    given = import_.parser_of().parse_args([str(raw), str(path), *words])
+    given = import_parser().parse_args([str(raw), str(path), *words])
     with contextlib.redirect_stdout(io.StringIO()), warnings.catch_warnings():
         warnings.simplefilter("ignore", ResourceWarning)
         importing.import_file(given, given.table, given.shards is not None)
@@ -390,9 +426,16 @@ class Imported(TestCase):
 
     tables: dict[str, tuple[str, ...]] = {}
     folder: pathlib.Path
+    # the folder of some tables, which the classes of a module that inherit them share
+    made: dict[int, pathlib.Path] = {}
 
     @classmethod
     def setUpClass(cls) -> None:
-        cls.folder = cls.new_class_folder()
-        for name, words in cls.tables.items():
-            imported(cls.folder / name, *words)
+        if id(cls.tables) not in Imported.made:
+            folder = tempfile.TemporaryDirectory(prefix="bw test ")
+            unittest.addModuleCleanup(folder.cleanup)
+            unittest.addModuleCleanup(Imported.made.pop, id(cls.tables))
+            Imported.made[id(cls.tables)] = pathlib.Path(folder.name)
+            for name, words in cls.tables.items():
+                imported(pathlib.Path(folder.name, name), *words)
+        cls.folder = Imported.made[id(cls.tables)]

@@ -71,7 +71,8 @@ class Answers(Loaded):
             for layout in LAYOUTS:
                 by_rows, by_columns = self.load(count, layout)
                 asked = [f"SELECT {self.chance.choice(ITEMS)} FROM t "
-                         f"WHERE {conditions.condition(2)}" for _ in range(6)]
+                         f"WHERE {conditions.condition(2)}"
+                         for _ in range(support.sample(2, 6))]
                 for sql in asked:
                     with self.subTest(sql, count=count, layout=layout):
                         self.assertEqual(bw("query", "--stats", by_rows, sql),
@@ -155,9 +156,9 @@ class Damage(Loaded):
             whole = path.read_bytes()
             borders = File(whole).borders()
             self.assertEqual(borders[-1], len(whole))
-            for number, end in enumerate(sorted({
-                    near for border in borders for near in (border - 1, border)
-                    if 0 <= near < len(whole)})):
+            ends = sorted({near for border in borders for near in (border - 1, border)
+                           if 0 <= near < len(whole)})
+            for number, end in enumerate(support.sample_of(ends, -(-len(ends) // 3), 95)):
                 path.write_bytes(whole[:end])
                 line = f"bw: 305 truncated at byte {end}\n"
                 other = ("dump", "session", "info")[number % 3]

@@ -243,7 +243,7 @@ def made_file(seed):
             [heads, *wanted])
 
 
-@support.each(map(made_file, range(12)))
+@support.each(map(made_file, range(support.sample(6, 12))))
 class Made(ThereAndBack):
     """Drawn files."""
 
@@ -506,7 +506,7 @@ def totals(rows):
             str(held("ok").count("true")) if held("ok") else ""]
 
 
-@support.each([(f"seed {seed}", seed) for seed in range(6)])
+@support.each([(f"seed {seed}", seed) for seed in range(support.sample(2, 6))])
 class Meanings(Columns):
     """Drawn conditions over drawn rows select those that SQLite selects."""
 
@@ -524,7 +524,7 @@ class Meanings(Columns):
         made = tool("bw-import", "--keep-blanks", folder / "t.csv", folder / "t.bw")
         self.assertEqual(made.status, 0, made)
         asked = [(TOTALS if number % 5 == 4 else "*", fields.condition(number % 4))
-                 for number in range(75)]
+                 for number in range(support.sample(40, 75))]
         done = tool("bw-ask", folder / "t.bw", given="".join(
             f"SELECT {items} FROM t WHERE {condition};\n" for items, condition in asked))
         came = done.out.split("\n\n")[:-1]

@@ -193,13 +193,14 @@ class Conditions(support.TestCase):
 
 @support.each(COMPARE)
 class Numbers(Conditions):
-    """Each comparison with each number, over each value of a column."""
+    """Each comparison with each number, or a sample of them, over each value of a column."""
 
     def check(self, sign):
         rows = [[number, "NULL" if number % 22 == 21 else number % 22 - 10]
                 for number in range(256)]
+        numbers = {-1, 0, 1, 255, 256, *support.sample_of(range(-1, 257), 30, COMPARE.index(sign))}
         self.compare(COMMON, rows, [("COUNT(*), SUM(b)", f"a {sign} {number}")
-                                    for number in range(-1, 257)])
+                                    for number in sorted(numbers)])
         self.compare(COMMON, rows, [("COUNT(*), SUM(a)", f"{number} {sign} b")
                                     for number in range(-11, 12)])
 
@@ -213,7 +214,7 @@ class Listed(Conditions):
         self.compare(columns, rows, [("COUNT(*)", condition) for condition in conditions])
 
 
-@support.each([(f"seed {seed}", seed) for seed in range(8)])
+@support.each([(f"seed {seed}", seed) for seed in range(support.sample(3, 8))])
 class Drawn(Conditions):
     """Drawn conditions."""
 
@@ -234,8 +235,8 @@ class Long(Conditions):
     def check(self, _, least, most):
         chance = random.Random(least)
         rows = drawn.whole_rows(chance, drawn.WIDE, NEAR, 1100)
-        conditions = drawn.Conditions(chance)
+        conditions, count = drawn.Conditions(chance), support.sample(8, 40)
         asked = [("COUNT(*), SUM(c), MIN(x)",
-                  conditions.long_condition(chance.randint(least, most))) for _ in range(40)]
+                  conditions.long_condition(chance.randint(least, most))) for _ in range(count)]
         served = self.compare(drawn.WIDE, rows, asked, "program|rows").count("program")
-        self.assertGreaterEqual(served, {2: 38, 5: 34, 9: 10, 17: 0}[least])
+        self.assertGreaterEqual(served, count * {2: .95, 5: .85, 9: .25, 17: 0}[least])

@@ -6,6 +6,7 @@ import csv
 import decimal
 import gzip
 import io
+import itertools
 import os
 import random
 import resource
@@ -390,7 +391,7 @@ class Names(Tools):
         """They are read by programs of the PATH."""
         (self.folder / "x.csv").write_bytes(SHOP)
         (self.folder / "x.csv.gz").write_bytes(gzip.compress(SHOP))
-        for name in ("x.csv", "x.csv.gz"):
+        for name in ("x.csv", "x.csv.gz") if support.IS_WHOLE else ("x.csv.gz",):
             with self.subTest(name):
                 done = support.sh(f"PATH='{PYTHON}/bin':$PATH; cat {name} | bw-import - p.bw && "
                                   f"bw-ask p.bw '{self.ASKS}'", self.folder)
@@ -400,21 +401,23 @@ class Names(Tools):
 class Closed(Tools):
     """Standard files that are closed: no other file gets their numbers."""
 
+    WAYS = list(itertools.product((SHOP, b"\xef\xbb\xbf" + SHOP), ((0,), (0, 2), (2,)), (
+        ["bw-import", "t.csv", "t.bw"], ["bw-shards", "load", "--rows", "2", "t.csv", "s"])))
+
     def test_closed(self):
-        for data in (SHOP, b"\xef\xbb\xbf" + SHOP):
-            (self.folder / "t.csv").write_bytes(data)
-            for numbers in ((0,), (0, 2), (2,)):
-                for words in (["bw-import", "t.csv", "t.bw"],
-                              ["bw-shards", "load", "--rows", "2", "t.csv", "s"]):
-                    with self.subTest(words[0], numbers=numbers):
-                        done = subprocess.run(
-                            [sys.executable, "-S", PYTHON / "bin" / words[0], *words[1:]],
-                            cwd=self.folder, stdout=subprocess.PIPE, check=False, timeout=LONGEST,
-                            preexec_fn=lambda numbers=numbers: list(map(os.close, numbers)))
-                        self.assertEqual(done.returncode, 0)
-                        done = tool("bw-ask", words[-1], "SELECT COUNT(*), MAX(id) FROM t",
-                                    cwd=self.folder)
-                        self.assertEqual(done, (0, "COUNT(*),MAX(id)\n4,4\n", ""))
+        """The sample has each of the two files, the three sets and the two programs."""
+        for data, numbers, words in self.WAYS if support.IS_WHOLE else self.WAYS[::3] + \
+                self.WAYS[5:6]:
+            with self.subTest(words[0], data=data[:3], numbers=numbers):
+                (self.folder / "t.csv").write_bytes(data)
+                done = subprocess.run(
+                    [sys.executable, "-S", PYTHON / "bin" / words[0], *words[1:]],
+                    cwd=self.folder, stdout=subprocess.PIPE, check=False, timeout=LONGEST,
+                    preexec_fn=lambda numbers=numbers: list(map(os.close, numbers)))
+                self.assertEqual(done.returncode, 0)
+                done = tool("bw-ask", words[-1], "SELECT COUNT(*), MAX(id) FROM t",
+                            cwd=self.folder)
+                self.assertEqual(done, (0, "COUNT(*),MAX(id)\n4,4\n", ""))
 
 
 class Output(Tools):
@@ -423,12 +426,12 @@ class Output(Tools):
 
     def setUp(self):
         super().setUp()
-        self.imported(b"a,b\n" + b"".join(b"%d,some text that is the same\n" % number
-                                          for number in range(5000)))
+        support.imported(self.folder / "t.bw", "a,b\n" + "".join(
+            f"{number},some text that is the same\n" for number in range(5000)))
 
-    def check(self, name, *words, given=b""):
+    def check(self, name, *words, given=b"", buffering=("", "1")):
         words = [sys.executable, "-S", PYTHON / "bin" / name, *words]
-        for unbuffered in ("", "1"):
+        for unbuffered in buffering:
             more = {"cwd": self.folder, "env": {**os.environ, "PYTHONUNBUFFERED": unbuffered},
                     "stderr": subprocess.PIPE}
             with self.subTest("a full disk", unbuffered=unbuffered), \
@@ -458,7 +461,8 @@ class Output(Tools):
 
     def test_from_numbers(self):
         numbers = bw("query", self.folder / "t.bw", "SELECT b, a, b, b FROM t").out
-        self.check("bw-from-numbers", "t.bw.columns", given=numbers.encode())
+        self.check("bw-from-numbers", "t.bw.columns", given=numbers.encode(),
+                   buffering=("", "1") if support.IS_WHOLE else ("",))
 
 
 FIRST, SECOND = "SELECT id FROM t WHERE price > 2", "SELECT COUNT(*), MAX(land) FROM t"
@@ -476,7 +480,7 @@ class Asking(Tools):
 
     def setUp(self):
         super().setUp()
-        self.imported(SHOP)
+        support.imported(self.folder / "t.bw", SHOP.decode())
 
     def program_of(self, script):
         """Writes a program that answers a session as the shell script does, and is bw for
@@ -552,8 +556,8 @@ class Large(Asking):
         Tools.setUp(self)
         # of 18 digits, so that few of them are long
         numbers = range(10 ** 17, 10 ** 17 + 12_000)
-        rows = "".join(f"{number},text {number % 1000}\n" for number in numbers)
-        self.imported(f"a,b\n{rows}".encode())
+        rows = "".join(f"{number},text {number % 1000}\n" for number in numbers[:4500])
+        support.imported(self.folder / "t.bw", f"a,b\n{rows}")
         many, more = (", ".join(map(str, numbers[::step])) for step in (5, 3))
         self.asked = ["SELECT * FROM t", f"SELECT a FROM t WHERE a < {10 ** 17 + 3}",
                       "SELECT a, b, a FROM t WHERE b <> 'text 7'",
@@ -573,7 +577,7 @@ class Large(Asking):
         # the second of these is too long for bw
         done = self.ask(given="; ".join(self.asked[place] for place in (0, 4, 5)))
         self.assertEqual(done, (0, "".join(f"{found[place].out}\n" for place in (0, 4, 5)), ""))
-        self.assertEqual(found[4].out.count("\n"), 4_001)
+        self.assertEqual(found[4].out.count("\n"), 1_501)
 
 
 # how a session ends by itself, which another one follows, its output, the message, and the status
@@ -624,14 +628,10 @@ class Places(Tools):
     def run_in(self, *words, **names):
         return support.run(words, cwd=self.folder, **names)
 
-    def test_a_copy_and_symlinks(self):
+    def test_a_copy_by_a_bare_python(self):
+        """test_install has copies and symlinks that start by themselves."""
         support.copy_python(self.folder / "copy")
-        for place in ("copy/bin", "bin"):
-            with self.subTest(place):
-                made = self.run_in(f"{place}/bw-import", "t.csv", "t.bw")
-                self.assertEqual((made.status, made.err), (0, ""))
-                self.assertEqual(self.run_in(f"{place}/bw-ask", "t.bw", self.ASKS),
-                                 (0, "price\n13.50\n", ""))
+        self.imported(SHOP)
         done = self.run_in(sys.executable, "-I", "-S", "copy/bin/bw-ask", "t.bw", self.ASKS)
         self.assertEqual(done, (0, "price\n13.50\n", ""))
 
@@ -680,7 +680,7 @@ TOTALS = ("SELECT COUNT(*), COUNT(num), SUM(num), MIN(num), MAX(land), MIN(day),
           "FROM t")
 
 
-@support.each([(f"seed {seed}", seed) for seed in range(4)])
+@support.each([(f"seed {seed}", seed) for seed in range(support.sample(2, 4))])
 class Spellings(Tools):
     """Drawn conditions over drawn rows in drawn spellings select those that SQLite selects."""
 

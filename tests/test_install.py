@@ -31,15 +31,19 @@ at = int(version('setuptools').split('.')[0])
 assert at >= 61 and version('pip')
 if at < 71: version('wheel')
 """
+HOOK = "import sys; from setuptools import build_meta; build_meta.build_wheel(sys.argv[1])"
+
+
+# only the system is on the PATH
+PLAIN = {"PATH": f"{pathlib.Path(sys.executable).parent}:/usr/bin:/bin", "HOME": "/nonexistent",
+         "LC_ALL": "C.UTF-8"}
 
 
 def run(words, cwd=None, **names):
     """Runs a command with only the system on its PATH."""
-    names = {"PATH": f"{pathlib.Path(sys.executable).parent}:/usr/bin:/bin",
-             "HOME": "/nonexistent", "LC_ALL": "C.UTF-8", **names}
     done = subprocess.run(list(map(str, words)), stdin=subprocess.DEVNULL, check=False, text=True,
                           stdout=subprocess.PIPE, stderr=subprocess.PIPE, timeout=LONGEST,
-                          env=names, cwd=cwd)
+                          env={**PLAIN, **names}, cwd=cwd)
     return support.Done(done.returncode, done.stdout, done.stderr)
 
 
@@ -60,11 +64,13 @@ class Installed(support.TestCase):
     def setUp(self):
         self.folder = self.new_folder()
 
-    def install(self, *words, top=ROOT, by=(sys.executable, "-S"), **names):
-        """Runs ./install of a tree, by a Python that starts fast. The packed tar has its own
-        program."""
-        given = {} if (top / "bw").is_file() and top != ROOT else {"BW": str(BW)}
-        return run([*by, top / "install", *words], **given, **names)
+    def install(self, *words, top=ROOT, is_started=False, **names):
+        """Runs ./install of a tree: in a fork of this process, or as a user starts it. The packed
+        tar has its own program."""
+        given = {"BW": "" if (top / "bw").is_file() and top != ROOT else str(BW), **names}
+        if is_started:
+            return run([top / "install", *words], **given)
+        return support.tool(top / "install", *words, **{**PLAIN, **given})
 
     def assert_works(self, place, **names):
         """Tests that the tools of a folder work."""
@@ -78,7 +84,7 @@ class Installed(support.TestCase):
     def check_installs(self, top):
         """Installs from a folder into an empty one, installs again, and uninstalls."""
         prefix = self.folder / "a prefix"
-        done = self.install(prefix, top=top, by=())
+        done = self.install(prefix, top=top, is_started=True)
         self.assertEqual((done.status, done.err), (0, ""))
         self.assertIn(f"export PATH='{prefix}/bin':", done.out)
         kept, package = content(prefix), prefix / "share" / "bw" / "python" / "bwtools"
@@ -130,7 +136,7 @@ class Install(Installed):
         top, = [each for each in self.folder.iterdir() if each.is_dir()]
         self.assert_works(top / "python" / "bin")
         prefix = self.folder / "from the tar"
-        self.assertEqual(self.install(prefix, top=top, by=()).status, 0)
+        self.assertEqual(self.install(prefix, top=top, is_started=True).status, 0)
         self.assertEqual(run([prefix / "bin" / "bw", "--version"]), run([BW, "--version"]))
 
     def test_foreign_files_are_not_overwritten(self):
@@ -331,10 +337,12 @@ class Copies(Installed):
         self.assertIn("proving", done.err)
 
 
-def has_pip(python):
-    """Returns whether a Python has a pip that installs for another one, 22.3 or later."""
-    test = "from importlib.metadata import version as v; assert v('pip') >= '22.3'"
-    return os.path.exists(python) and run([python, "-c", test]).status == 0
+def pip_of(python):
+    """Returns a Python and the file by which its pip, 22.3 or later, runs in another Python, or
+    None if it has none."""
+    test = "import pip; assert pip.__version__ >= '22.3'; print(pip.__path__[0])"
+    done = run([python, "-c", test]) if os.path.exists(python) else None
+    return done and done.status == 0 and (python, f"{done.out.strip()}/__pip-runner__.py") or None
 
 
 class Pip(Installed):
@@ -358,14 +366,16 @@ class Pip(Installed):
             told = parts.read(next(name for name in parts.namelist() if "METADATA" in name))
         for line in (b"Provides-Extra: pandas", b"Provides-Extra: dask", b"bw-import fares.csv"):
             self.assertIn(line, told)
-        python = next(filter(has_pip, (sys.executable, "/usr/bin/python3")), None)
+        python, pip = next(filter(None, map(pip_of, (sys.executable, "/usr/bin/python3"))),
+                           (None, None))
         if not python:
             self.skipTest("the wheel: install python3-pip, 22.3 or later")
         venv = self.folder / "venv"
-        for words in (["venv", "--without-pip", venv],
-                      ["pip", "--python", venv / "bin" / "python", "install", "--no-index",
-                       "--no-compile", "--quiet", wheel]):
-            done = run([python, "-m", *words], HOME=str(self.folder))
+        # the second is what pip --python does, in one process
+        for words in ([python, "-m", "venv", "--without-pip", venv],
+                      [venv / "bin" / "python", pip, "install", "--no-index", "--no-compile",
+                       "--quiet", wheel]):
+            done = run(words, HOME=str(self.folder))
             self.assertEqual(done.status, 0, done)
         self.assertLessEqual({"bw", *TOOLS}, set(os.listdir(venv / "bin")))
         self.assertEqual((venv / "bin" / "bw").read_bytes(), BW.read_bytes())
@@ -386,19 +396,38 @@ class Pip(Installed):
                          f"{run([BW, '--version']).out}bw-ask {bwtools.__version__}\n")
 
     def test_the_tree(self):
-        """pip installs the package without a program, too: that of the PATH works."""
+        """The package is installed without a program, too: that of the PATH works. pip itself,
+        which asks setuptools three times, is in the whole alone."""
         python = next((each for each in dict.fromkeys((sys.executable, "/usr/bin/python3"))
                        if os.path.exists(each) and run([each, "-c", HAS_TOOLS]).status == 0), None)
         if not python:
             self.skipTest("pip: install setuptools, and wheel")
         copy_python(self.folder / "python")
         target = self.folder / "to"
-        done = run([python, "-m", "pip", "install", "--no-build-isolation", "--no-index",
-                    "--no-deps", "--no-compile", "--quiet", "--target", target,
-                    self.folder / "python"], HOME=str(self.folder))
-        self.assertEqual(done.status, 0, done)
+        if support.IS_WHOLE:
+            done = run([python, "-m", "pip", "install", "--no-build-isolation", "--no-index",
+                        "--no-deps", "--no-compile", "--quiet", "--target", target,
+                        self.folder / "python"], HOME=str(self.folder))
+            self.assertEqual(done.status, 0, done)
+        else:
+            self.install_by_hook(python, target)
         self.assertEqual(sorted(os.listdir(target / "bin")), [*TOOLS])
         self.assert_works(target / "bin", BW=str(BW), PYTHONPATH=str(target))
+
+    def install_by_hook(self, python, target):
+        """Builds the package by what pip calls, and installs it as pip does."""
+        done = run([python, "-c", HOOK, target], self.folder / "python", HOME=str(self.folder))
+        self.assertEqual(done.status, 0, done)
+        wheel, = target.glob("*.whl")
+        with zipfile.ZipFile(wheel) as parts:
+            parts.extractall(target)
+        told, = target.glob("*.dist-info/entry_points.txt")
+        (target / "bin").mkdir()
+        for name, module in re.findall(r"^(\S+) = (\S+):main$", told.read_text(), re.M):
+            path = target / "bin" / name
+            path.write_text(f"#!{python}\nimport sys\nfrom {module} import main\n"
+                            "sys.exit(main())\n")
+            path.chmod(0o755)
 
 
 @functools.lru_cache(None)
@@ -468,7 +497,7 @@ class Completions(support.TestCase):
         for words in ([name] for name in TOOLS if name != "bw-shards"):
             # before Python 3.10 they are called optional arguments
             told = re.split("\n(?:options|optional arguments):",
-                            run([PYTHON / "bin" / words[0], "--help"]).out)[-1]
+                            support.tool(words[0], "--help").out)[-1]
             options = set(re.findall(r"^  (?:-h, )?(--[a-z-]+)", told, re.M))
             self.assertGreaterEqual(options, {"--help", "--version"})
             self.assertEqual(completed_by_bash(*words, "--"), options, words)
@@ -486,7 +515,7 @@ class Completions(support.TestCase):
 
     def test_each_program_has_a_version(self):
         for name in TOOLS:
-            done = run([PYTHON / "bin" / name, "--version"])
+            done = support.tool(name, "--version")
             self.assertEqual((done.status, done.out), (0, f"{name} {bwtools.__version__}\n"))
 
     def test_zsh(self):

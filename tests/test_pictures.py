@@ -20,7 +20,7 @@ class Drawn(support.TestCase):
     """What is drawn."""
 
     def draw(self, *words):
-        return support.run([ROOT / "scripts" / "draw", *words])
+        return support.tool(ROOT / "scripts" / "draw", *words)
 
     def test_the_page_has_what_is_drawn(self):
         folder = self.new_folder()

@@ -33,31 +33,42 @@ exec "{1}" "$@"
 NUMBERED = """n=1; mkdir -p "{0}.calls"
 while ! mkdir "{0}.calls/$n" 2>/dev/null; do n=$((n + 1)); done
 """
+# a cluster, beside which a fork runs bw-shards once for each line of a pipe, which has arguments,
+# input and environment, and writes the status to another one: Dask is imported once
 CLUSTER = """
-import logging, sys, tempfile
+import json, logging, os, sys, tempfile
 from distributed import LocalCluster
+sys.path.insert(0, sys.argv[1])
+from bwtools._cli import shards
+
+def run_here(words, given, names):
+    with open("in", "w") as file:
+        file.write(given)
+    os.dup2(os.open("in", os.O_RDONLY), 0)
+    for place, name in ((1, "out"), (2, "err")):
+        os.dup2(os.open(name, os.O_WRONLY | os.O_CREAT | os.O_TRUNC, 0o600), place)
+    sys.argv, sys.stdin = ["bw-shards", *words], open(0, closefd=False)
+    os.environ.update(names)
+    sys.exit(shards.main())
+
+def serve(lines, statuses):
+    for line in os.fdopen(lines):
+        if not os.fork():
+            run_here(*json.loads(line))
+        os.write(statuses, b"%d\\n" % os.waitstatus_to_exitcode(os.wait()[1]))
+
 if __name__ == "__main__":
+    server = os.fork()
+    if not server:
+        serve(int(sys.argv[2]), int(sys.argv[3]))
+        sys.exit()
     with tempfile.TemporaryDirectory() as folder, LocalCluster(
             n_workers=2, threads_per_worker=1, host="127.0.0.1", scheduler_port=0,
             dashboard_address=None, local_directory=folder,
             silence_logs=logging.CRITICAL) as cluster:
         print(cluster.scheduler_address, flush=True)
         sys.stdin.read()
-"""
-
-# runs bw-shards once for each list of arguments, and prints the status; Dask is imported once
-IN_TURN = """
-import json, os, sys
-sys.path.insert(0, sys.argv[1])
-import distributed
-from bwtools._cli import shards
-for number, words in enumerate(json.load(sys.stdin)):
-    if not os.fork():
-        for place, name in ((1, "out"), (2, "err")):
-            os.dup2(os.open(f"{name}-{number}", os.O_WRONLY | os.O_CREAT, 0o600), place)
-        sys.argv = ["bw-shards", *words]
-        sys.exit(shards.main())
-    print(os.waitstatus_to_exitcode(os.wait()[1]), flush=True)
+    os.waitpid(server, 0)
 """
 
 # statements of each kind, without SELECT: with results of rows and of totals, and some that select
@@ -406,36 +417,26 @@ class Workers(Loaded):
         cls.python = python_with_dask()
         if not cls.python:
             raise unittest.SkipTest("bw-shards by Dask: install python3-distributed")
-        cls.address = cls.enter_cluster()
-
-    @classmethod
-    def enter_cluster(cls):
-        """Runs a cluster of two workers until the end of the tests. Returns the address of its
-        scheduler."""
         (cls.folder / "cluster").write_text(CLUSTER)
+        (lines, cls.lines), (cls.statuses, statuses) = os.pipe(), os.pipe()
         # workers are forks of a process that has imported what they need
         cluster = subprocess.Popen(
-            [cls.python, "cluster"], stdin=subprocess.PIPE, stdout=subprocess.PIPE,
-            stderr=subprocess.DEVNULL, text=True, cwd=cls.folder,
-            env={**os.environ, "DASK_DISTRIBUTED__WORKER__MULTIPROCESSING_METHOD": "forkserver"})
-
-        def end():
-            cluster.communicate(timeout=LONGEST)
-
-        cls.addClassCleanup(end)
-        return cluster.stdout.readline().strip()
+            [cls.python, "cluster", PYTHON, str(lines), str(statuses)], stdin=subprocess.PIPE,
+            stdout=subprocess.PIPE, stderr=subprocess.DEVNULL, text=True, cwd=cls.folder,
+            env={**os.environ, "DASK_DISTRIBUTED__WORKER__MULTIPROCESSING_METHOD": "forkserver"},
+            pass_fds=[lines, statuses])
+        cls.addClassCleanup(cluster.communicate, timeout=LONGEST)
+        cls.addClassCleanup(list, map(os.close, (cls.lines, cls.statuses)))
+        for number in (lines, statuses):
+            os.close(number)
+        cls.address = cluster.stdout.readline().strip()
 
     def by_workers(self, *words, given="", **names):
-        return support.run([self.python, PYTHON / "bin" / "bw-shards", *words], given,
-                           cwd=self.folder, **names)
-
-    def in_turn(self, *calls):
-        """Runs bw-shards with each of these arguments. Returns what the calls left."""
-        done = support.run([self.python, "-c", IN_TURN, PYTHON], json.dumps(calls),
-                           cwd=self.folder)
-        return [support.Done(int(status), *((self.folder / f"{name}-{number}").read_text()
-                                            for name in ("out", "err")))
-                for number, status in enumerate(done.out.split())]
+        """Runs bw-shards, and returns what it left."""
+        os.write(self.lines, json.dumps([words, given, names]).encode() + b"\n")
+        status = os.read(self.statuses, 99)
+        return support.Done(int(status), *((self.folder / name).read_text()
+                                           for name in ("out", "err")))
 
     def test_a_worker_that_dies(self):
         """Its shard is run again."""
@@ -464,16 +465,13 @@ class Workers(Loaded):
         damaged = self.folder / "damaged" / "shard-001.bw"
         damaged.write_bytes(damaged.read_bytes()[:-1] + b"\1")
         count = "SELECT COUNT(*) FROM t"
-        calls = [["ask", name, count, "--scheduler", address]
-                 for name, address in (("missing", self.address), ("damaged", self.address),
-                                       ("s", "nothing"))]
-        came = self.in_turn(*calls)
-        self.assertEqual(len(came), len(calls))
-        for done, (told, statuses) in zip(came, (
-                ("missing/shard-003.bw: No such file or directory", (3, 5)),
-                ("damaged/shard-001.bw: isn't the table that", (3, 5)),
-                ("the scheduler nothing can't be used", (3,)))):
+        for name, address, told, statuses in (
+                ("missing", self.address, "missing/shard-003.bw: No such file or directory",
+                 (3, 5)),
+                ("damaged", self.address, "damaged/shard-001.bw: isn't the table that", (3, 5)),
+                ("s", "nothing", "the scheduler nothing can't be used", (3,))):
             with self.subTest(told):
+                done = self.by_workers("ask", name, count, "--scheduler", address)
                 self.assertIn(done.status, statuses)
                 self.assertEqual(done.out, "")
                 self.assertIn(told, done.err)

@@ -2,6 +2,7 @@
 proves, in a small tree with stand-ins for the program and for the kit's command rt."""
 import fcntl
 import os
+import re
 import shutil
 import subprocess
 import sys
@@ -26,6 +27,7 @@ import unittest
 class Small(unittest.TestCase):
     def test_passes(self):
         print("a line")
+        self.assertEqual(os.environ.get("WHOLE"), os.environ.get("WANTED"))
 
     def test_is_skipped(self):
         self.skipTest("something: install it")
@@ -67,9 +69,10 @@ class Trees(support.TestCase):
         (self.folder / "dist" / "RECORD").write_text(
             "".join(f"{name} {value}\n" for name, value in record.items()))
 
-    def run_in(self, *words, kit=None, gate=GATE, **names):
-        """Runs a command in the tree. Returns its status and its lines. If `kit` is given, a
-        stand-in for rt prints it as its version, and else does `gate`."""
+    def run_in(self, *words, kit=None, gate=GATE, is_fork=False, **names):
+        """Runs a command in the tree, or a script of Python in a fork of this process. Returns its
+        status and its lines. If `kit` is given, a stand-in for rt prints it as its version, and
+        else does `gate`."""
         tools = self.folder / "tools"
         shutil.rmtree(tools)
         tools.mkdir()
@@ -78,9 +81,14 @@ class Trees(support.TestCase):
                                  f'[ "$*" != version ] || {{ echo "{kit}"; exit; }}\n{gate}')
         # the module site, of no use here, takes longer to start than a small test
         support.write_script(tools / "python3", f'exec "{sys.executable}" -S "$@"')
+        names = {"PATH": f"{tools}:/usr/bin:/bin", **names}
+        if is_fork:
+            run = support.Running(self.folder / words[0], *words[1:], names=names, is_mixed=True,
+                                  cwd=self.folder).done()
+            return run.status, run.out.splitlines()
         done = subprocess.run(words, cwd=self.folder, stdin=subprocess.DEVNULL, text=True,
                               stdout=subprocess.PIPE, stderr=subprocess.STDOUT, check=False,
-                              env={"PATH": f"{tools}:/usr/bin:/bin", **names})
+                              env=names)
         return done.returncode, done.stdout.splitlines()
 
 
@@ -105,7 +113,7 @@ class Shipped(Trees):
 
     def check(self, status, line, *words, kit):
         """Tests the status, and a line or the beginning of one."""
-        came, lines = self.run_in("scripts/ship", "--check", *words, kit=kit)
+        came, lines = self.run_in("scripts/ship", "--check", *words, kit=kit, is_fork=True)
         self.assertEqual(came, status, lines)
         self.assertTrue(any(each.startswith(line) for each in lines), lines)
 
@@ -173,6 +181,20 @@ class Check(Trees):
                 status, lines = self.run_in("./check", *words.split(" "))
                 self.assertEqual((status, lines[-1]), (int("none" in words), wanted), lines)
 
+    def test_the_whole_and_times(self):
+        status, lines = self.run_in("./check", "--whole", "--times", WANTED="1")
+        self.assertEqual((status, lines[-1]), (0, "2 passed, 0 failed, 1 skipped"), lines)
+        for line in (r" +[0-9.]+ s of processors, of which", r" +[0-9.]+   test_small",
+                     r" +[0-9.]+   test_small\.Small\.test_passes"):
+            self.assertTrue(any(re.fullmatch(line, each) for each in lines), lines)
+
+    def test_a_module_without_tests(self):
+        (self.folder / "tests" / "test_empty.py").write_text("")
+        status, lines = self.run_in("./check")
+        self.assertEqual((status, lines[-2:]), (1, ["FAILED: test_empty",
+                                                    "2 passed, 1 failed, 1 skipped"]))
+        self.assertIn("FAILED test_empty", lines)
+
     def test_a_module_that_ends_its_process(self):
         (self.folder / "tests" / "test_ends.py").write_text("import os\nos._exit(0)\n")
         status, lines = self.run_in("./check", RT_JOBS="1")
@@ -183,12 +205,12 @@ class Check(Trees):
     def test_wrong_arguments(self):
         for words in (["--quick"], ["--proof", "--all"], ["--proof", "test_small"]):
             with self.subTest(words):
-                status, lines = self.run_in("./check", *words)
+                status, lines = self.run_in("./check", *words, is_fork=True)
                 self.assertEqual(status, 2)
                 self.assertRegex(lines[0], r"\Ausage: ./check ")
         for word in ("--proof", "--all"):
             with self.subTest(word):
-                status, lines = self.run_in("./check", word)
+                status, lines = self.run_in("./check", word, is_fork=True)
                 self.assertEqual((status, len(lines)), (2, 1))
                 self.assertIn("Rattle kit", lines[0])
 
@@ -204,6 +226,33 @@ class Check(Trees):
                                                     "4 passed, 1 failed, 1 skipped"]))
         self.assertIn("an open goal", lines)
         self.assertNotIn("noise", lines)
+
+
+class Samples(support.TestCase):
+    """What tests draw of their cases: never nothing, always the same, and the whole on demand."""
+
+    def test_counts(self):
+        self.assertEqual((support.sample(3, 9, False), support.sample(3, 9, True)), (3, 9))
+        for few, whole in ((0, 9), (-1, 9), (10, 9)):
+            for is_whole in (False, True):
+                with self.assertRaises(ValueError):
+                    support.sample(few, whole, is_whole)
+
+    def test_cases(self):
+        cases = list("abcdefghij")
+        found = support.sample_of(cases, 4, 1, False)
+        self.assertEqual((len(found), found), (4, sorted(found)))
+        self.assertEqual(found, support.sample_of(cases, 4, 1, False))
+        self.assertNotEqual(found, support.sample_of(cases, 4, 2, False))
+        self.assertEqual(support.sample_of(cases, 4, 1, True), cases)
+        with self.assertRaises(ValueError):
+            support.sample_of([], 1, 1)
+
+    def test_the_environment_decides(self):
+        for names, wanted in (({"WHOLE": ""}, "3"), ({"WHOLE": "1"}, "9")):
+            code = "from tests.support import sample; print(sample(3, 9))"
+            done = support.run([sys.executable, "-c", code], cwd=ROOT, **names)
+            self.assertEqual((done.out, done.err), (f"{wanted}\n", ""))
 
 
 class Prove(Trees):

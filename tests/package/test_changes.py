@@ -4,6 +4,7 @@ import contextlib
 import importlib.util
 import io
 import os
+import shutil
 import signal
 import time
 from unittest import mock
@@ -15,7 +16,8 @@ from bwtools._errors import Failed
 from bwtools._storage import catalog
 from bwtools._storage.catalog import open_catalog
 
-from tests.support import BW, Imported, Running, TestCase, in_fork, imported, tool, write_script
+from tests.support import (BW, Imported, Running, TestCase, in_fork, imported, sample, tool,
+                           write_script)
 
 ROWS = 60
 WORDS = [("plum", "pear", "fig"), ("axe", "saw", "file")]
@@ -45,10 +47,18 @@ def overwrite(path, other):
 
 
 class Changes(Imported):
+    tables = {"other.bw": (raw(WORDS[1]), "--table", "t")}
+
+    @classmethod
+    def setUpClass(cls):
+        super().setUpClass()
+        cls.other = cls.folder / "other.bw"
+
     def setUp(self):
         self.folder = self.new_folder()
-        for name, words in zip(("t", "other"), WORDS):
-            imported(self.folder / f"{name}.bw", raw(words), "--table", "t")
+        imported(self.folder / "t.bw", raw(WORDS[0]), "--table", "t")
+        for path in (self.other, self.other.with_name("other.bw.columns")):
+            shutil.copy(path, self.folder)
         self.table, self.columns = self.folder / "t.bw", self.folder / "t.bw.columns"
 
     def connect(self, *paths):
@@ -191,7 +201,7 @@ class Connections(Changes):
 
         writer = in_fork(replace)
         try:
-            for _ in range(60):
+            for _ in range(sample(25, 60)):
                 with bwtools.connect(self.folder / "r.bw") as connection:
                     self.assertIn(connection.execute("SELECT n, word FROM r").fetchall(), rights)
         finally:

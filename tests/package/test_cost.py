@@ -14,9 +14,9 @@ from bwtools._sql.plan import Statement
 from bwtools._types import kinds
 from bwtools._types.base import Column
 
-from tests.support import Imported
+from tests.support import Imported, sample
 
-ROWS = 20_000
+ROWS = sample(8_000, 20_000)
 COLUMN = Column("c", "c", kinds.Whole())
 
 
@@ -117,16 +117,16 @@ class Quicker(Imported):
                     self.assertAlmostEqual(found[0][1], wanted[0][1], 6)
 
     def test_rows_that_offset_leaves_out_are_counted(self):
-        found = self.connection.execute("SELECT id, g FROM t LIMIT 3 OFFSET 19990").fetchall()
+        found = self.connection.execute("SELECT id, g FROM t LIMIT 3 OFFSET 7990").fetchall()
         rows = self.connection.execute("SELECT id, g FROM t").fetchall()
-        self.assertEqual(found, rows[19990:19993])
+        self.assertEqual(found, rows[7990:7993])
         converted = list[int]()
 
         def noted(lines, width):
             converted.append(lines.count(b"\n"))
             return columns_of(lines, width)
         with mock.patch("bwtools._result.columns_of", noted):
-            self.connection.execute("SELECT id, g FROM t LIMIT 3 OFFSET 19990").fetchall()
+            self.connection.execute("SELECT id, g FROM t LIMIT 3 OFFSET 7990").fetchall()
         self.assertEqual(sum(converted), 3)
 
     def test_times_before_1970_and_nulls_are_filled(self):

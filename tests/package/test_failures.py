@@ -1,5 +1,6 @@
 """Disks and memory that end: a line and a status of the programs, and an error of the module; and
 nothing that Python would report of objects that weren't closed."""
+import json
 import os
 import re
 import resource
@@ -15,8 +16,8 @@ from bwtools import _errors
 from bwtools._sql import plan
 from bwtools._storage import columns_file
 
-from tests.support import (BW, PYTHON, Imported, TestCase, content, import_package, imported,
-                           tool, write_script)
+from tests.support import (BW, IS_WHOLE, PYTHON, Imported, TestCase, content, import_package,
+                           imported, sample, tool, write_script)
 
 DISK = "the columns file can't be written: SQLite reports: " \
        "(database or disk is full|disk I/O error)"
@@ -117,19 +118,20 @@ class Memory(Failures):
         told = subprocess.run([sys.executable, "-c", "print(open('/proc/self/status').read())"],
                               capture_output=True, text=True, check=True).stdout
         peak = int(re.findall(r"VmPeak:\s+([0-9]+) kB", told)[0]) // 1024
-        for size in (peak + more for more in (2, 4, 8, 14, 30)):
-            for sql, wanted in (("SELECT COUNT(*) FROM t", "COUNT(*)\n3000\n"),
-                                ("SELECT COUNT(upper(word) || n) AS n FROM t", "n\n3000\n")):
-                done = subprocess.run(
-                    [*words, sql], cwd=self.folder, capture_output=True, text=True, check=False,
-                    stdin=subprocess.DEVNULL, preexec_fn=lambda: resource.setrlimit(
-                        resource.RLIMIT_AS, (size << 20, size << 20)))
-                if done.returncode == -signal.SIGABRT and FATAL in done.stderr:
-                    continue
-                with self.subTest(size, sql=sql):
-                    self.assertIn((done.returncode, done.stdout), ((0, wanted), (6, "")),
-                                  done.stderr)
-                    self.assertNotIn("Traceback", done.stderr)
+        asked = [("SELECT COUNT(*) FROM t", "COUNT(*)\n3000\n"),
+                 ("SELECT COUNT(upper(word) || n) AS n FROM t", "n\n3000\n")]
+        tried = [(peak + more, *each) for more in (2, 4, 8, 14, 30) for each in asked]
+        # the sample has each size, and each statement twice or more
+        for size, sql, wanted in tried if IS_WHOLE else tried[::4] + tried[3::4]:
+            done = subprocess.run(
+                [*words, sql], cwd=self.folder, capture_output=True, text=True, check=False,
+                stdin=subprocess.DEVNULL, preexec_fn=lambda: resource.setrlimit(
+                    resource.RLIMIT_AS, (size << 20, size << 20)))
+            if done.returncode == -signal.SIGABRT and FATAL in done.stderr:
+                continue
+            with self.subTest(size, sql=sql):
+                self.assertIn((done.returncode, done.stdout), ((0, wanted), (6, "")), done.stderr)
+                self.assertNotIn("Traceback", done.stderr)
 
 
 class Fields(TestCase):
@@ -170,10 +172,27 @@ class Fields(TestCase):
             os.unlink(self.folder / name)
         for data in (f"a,b\n1,{'x' * (most + 1)}\n2,y\n", f"a,b\n1,{'x' * (most * 3)}\n2,y\n",
                      f'a,b\n1,"{"x" * most}\n"\n', f"{'h' * (most + 1)},b\n1,2\n",
-                     f'a,b\n1,"{"xx" * most}\n\n\n"\n', 'a,b\n1,"' + f"{'x' * 99}\n" * 99999):
+                     f'a,b\n1,"{"xx" * most}\n\n\n"\n', 'a,b\n1,"' + f"{'x' * 99}\n" *
+                     sample(12_000, 99_999)):
             with self.subTest(data[:9], size=len(data)):
                 self.assertIn("has a field of more than 1,048,576 characters",
                               self.refused(data))
+
+
+# runs programs, each in a fork that ends as a Python of its own, and prints its errors before its
+# status
+IN_TURN = """
+import json, os, runpy, sys
+from bwtools._cli import ask, from_numbers, import_, shards, to_numbers
+for words in json.loads(sys.argv[1]):
+    if not os.fork():
+        os.dup2(1, 2)
+        os.dup2(os.open(os.devnull, os.O_WRONLY), 1)
+        sys.argv = words
+        runpy.run_path(words[0], run_name="__main__")
+        sys.exit()
+    print("==", os.waitstatus_to_exitcode(os.wait()[1]), flush=True)
+"""
 
 
 class Objects(Failures):
@@ -192,16 +211,21 @@ class Objects(Failures):
                 "    bwtools.connect('t.bw.csv')\n"
                 "except bwtools.Error:\n"
                 "    del c\n")
-        for words in (["-c", code], *([PYTHON / "bin" / name, *rest] for name, *rest in (
-                ("bw-import", "t.bw.csv", "o.bw"), ("bw-import", "--verify", "o.bw"),
-                ("bw-import", "--dry-run", "t.bw.csv"), ("bw-to-numbers", "t.bw.csv", "o.csv"),
-                ("bw-shards", "load", "t.bw.csv", "o"),
-                ("bw-ask", "o", "SELECT upper(word) FROM o"),
-                ("bw-ask", "t.bw", "SELECT word FROM t LIMIT 3"), ("bw-import", "t.bw", "x.bw"),
-                ("bw-from-numbers", "t.bw.columns")))):
-            done = subprocess.run(
-                [sys.executable, "-X", "dev", *words], cwd=self.folder, check=False, text=True,
-                stdin=subprocess.DEVNULL, stdout=subprocess.DEVNULL, stderr=subprocess.PIPE,
-                env={**os.environ, "PYTHONPATH": str(PYTHON), "BW": str(BW)})
-            with self.subTest(str(words[0])):
-                self.assertNotRegex(done.stderr, "Warning|Exception ignored|Traceback")
+        (self.folder / "module.py").write_text(code)
+        calls = [["module.py"], *([str(PYTHON / "bin" / name), *rest] for name, *rest in (
+            ("bw-import", "t.bw.csv", "o.bw"), ("bw-import", "--verify", "o.bw"),
+            ("bw-import", "--dry-run", "t.bw.csv"), ("bw-to-numbers", "t.bw.csv", "o.csv"),
+            ("bw-shards", "load", "t.bw.csv", "o"),
+            ("bw-ask", "o", "SELECT upper(word) FROM o"),
+            ("bw-ask", "t.bw", "SELECT word FROM t LIMIT 3"), ("bw-import", "t.bw", "x.bw"),
+            ("bw-from-numbers", "t.bw.columns")))]
+        done = subprocess.run(
+            [sys.executable, "-X", "dev", "-c", IN_TURN, json.dumps(calls)], cwd=self.folder,
+            check=False, text=True, stdin=subprocess.DEVNULL, stdout=subprocess.PIPE,
+            stderr=subprocess.STDOUT, env={**os.environ, "PYTHONPATH": str(PYTHON),
+                                           "BW": str(BW)})
+        found = re.findall(r"((?:(?!== ).*\n)*)== ([0-9]+)\n", done.stdout)
+        self.assertEqual([int(status) for _, status in found], [0] * 8 + [3, 3], done.stdout)
+        for words, (told, _) in zip(calls, found):
+            with self.subTest(words[0]):
+                self.assertNotRegex(told, "Warning|Exception ignored|Traceback")

@@ -11,7 +11,7 @@ from bwtools._sql.plan import Statement
 
 from tests import support
 
-SEED, COUNT = 11, 1000
+SEED, COUNT = 11, support.sample(200, 1000)
 COMPARE = {"=": operator.eq, "<>": operator.ne, "<": operator.lt, ">": operator.gt,
            "<=": operator.le, ">=": operator.ge}
 SWAPPED = {"<": ">", ">": "<", "<=": ">=", ">=": "<="}

@@ -18,7 +18,7 @@ from bwtools._storage.catalog import Folder
 from bwtools.loader import dictionary, encode, importing
 from bwtools.loader.dictionary import ByteFile, merge, read_fields
 
-from tests.support import Import, TestCase, bw, described
+from tests.support import Import, TestCase, bw, described, import_parser, sample, sample_of
 
 FIELDS = ["1", "-5", "0", "1.5", "2.50", "-0.0", "", "NA", "9223372036854775807", "1,5", "x",
           "007", "1e3", "1e-05", "1000.125", "2.000", "2024-05-01 10:00:00",
@@ -81,7 +81,7 @@ def found(data, words, names=()):
 class Together(unittest.TestCase):
     def test_as_one_by_one(self):
         draw, kinds = random.Random(10), set()
-        for _ in range(70):
+        for _ in range(sample(20, 70)):
             words = ("--heading", *draw.choice(WORDS))
             data, _ = drawn_text(draw)
             wanted = found(data, words, ALONE)
@@ -97,8 +97,8 @@ class Together(unittest.TestCase):
 
     def test_fields_come_back(self):
         """With the two options that keep all, each field that isn't null is what it was."""
-        draw, count = random.Random(11), 0
-        for _ in range(70):
+        draw, count, files = random.Random(11), 0, sample(20, 70)
+        for _ in range(files):
             data, rows = drawn_text(draw)
             words = ("--heading", "--keep-spelling", "--keep-blanks")
             made = Import(data, *words)
@@ -112,7 +112,7 @@ class Together(unittest.TestCase):
                         self.assertEqual(kind.text(next(rest)), row[place], (data, kind.name))
                         count += 1
                 self.assertEqual(list(rest), [])
-        self.assertGreater(count, 500)
+        self.assertGreater(count, 7 * files)
 
     def test_records_that_are_written_anew(self):
         """Also if bw sees no column of numbers."""
@@ -124,7 +124,7 @@ class Together(unittest.TestCase):
 
         for patch in (mock.patch("bwtools.loader.encode.feed_of", anew),
                       mock.patch("bwtools.loader.table.MARKED", frozenset({0, 1}))):
-            for _ in range(30):
+            for _ in range(sample(8, 30)):
                 words = ("--heading", *draw.choice(WORDS))
                 data, _ = drawn_text(draw)
                 wanted = found(data, words)
@@ -134,7 +134,7 @@ class Together(unittest.TestCase):
     def test_what_is_read_here(self):
         """Short rows, escaped signs, and marks of several bytes."""
         draw = random.Random(17)
-        for _ in range(20):
+        for _ in range(sample(5, 20)):
             data, rows = drawn_text(draw, ";")
             rows = [[*row, draw.choice("123")] for row in rows]
 
@@ -163,7 +163,7 @@ class Together(unittest.TestCase):
 
     def test_other_encodings(self):
         draw = random.Random(13)
-        for _ in range(20):
+        for _ in range(sample(5, 20)):
             words = ("--heading", *draw.choice(WORDS))
             data, _ = drawn_text(draw)
             wanted = found(data, words)
@@ -179,7 +179,7 @@ class Parts(TestCase):
         """Returns what an import prints, without the last line, or why it is refused."""
         path = self.folder / "raw.csv"
         path.write_bytes(data.encode())
-        given = import_.options.parsed(import_.parser_of(), [
+        given = import_.options.parsed(import_parser(), [
             "--table", "t", *words, str(path), str(self.folder / out)])
         with contextlib.redirect_stdout(io.StringIO()) as told:
             try:
@@ -212,10 +212,10 @@ class Parts(TestCase):
         return many[2]
 
     def test_drawn(self):
-        draw, self.folder = random.Random(14), self.new_folder()
+        draw, self.folder, files = random.Random(14), self.new_folder(), sample(8, 30)
         counts = [self.both(drawn_text(draw)[0], draw.choice([1, 2, 3, 7]), "--heading",
-                            *draw.choice(WORDS)) for _ in range(30)]
-        self.assertGreater(sum(bool(count) for count in counts), 15)
+                            *draw.choice(WORDS)) for _ in range(files)]
+        self.assertGreater(sum(bool(count) for count in counts), files // 2)
 
     def test_kinds_that_a_part_does_not_show(self):
         """Whole numbers in one part, and anything else in another."""
@@ -225,11 +225,11 @@ class Parts(TestCase):
             "99999999999999999999", "2024-05-01", "1e300", " 7", "007", "+7", "true")}
         words_of["8"] = [("--text", "a"), ("--digits", "a=2"), ("--null=-3",)]
         words_of[" 7"] += [("--keep-spelling",), ("--text", "a"), ("--keep-blanks",)]
-        for last, each in words_of.items():
-            for words in each:
-                with self.subTest(last, words=words):
-                    rows = ["-3,1", "4,2", "5,3", ",4", ",5", ",6", f"{last},7", "8,8", "9,9"]
-                    self.both("\n".join(["a,b", *rows, ""]), 3, "--heading", *words)
+        pairs = [(last, words) for last, each in words_of.items() for words in each]
+        for last, words in sample_of(pairs, 10, 14):
+            with self.subTest(last, words=words):
+                rows = ["-3,1", "4,2", "5,3", ",4", ",5", ",6", f"{last},7", "8,8", "9,9"]
+                self.both("\n".join(["a,b", *rows, ""]), 3, "--heading", *words)
 
     def test_numbers_of_rows(self):
         self.folder = self.new_folder()
@@ -320,7 +320,7 @@ class Dictionaries(TestCase):
 
     def test_merged(self):
         draw, folder = random.Random(15), self.new_folder()
-        for turn in range(60):
+        for turn in range(sample(20, 60)):
             with mock.patch.object(dictionary, "FIELDS_A_BLOCK", draw.choice([1, 2, 5, 100])), \
                     mock.patch.object(dictionary, "BYTES_A_BLOCK", draw.choice([3, 100])):
                 listed = []
@@ -370,7 +370,7 @@ class Places(unittest.TestCase):
             for every in (1, 3, 1 << 12):
                 with mock.patch.object(encode, "BYTES_AT_ONCE", at_once), \
                         mock.patch.object(encode, "EVERY", every):
-                    for _ in range(25):
+                    for _ in range(sample(10, 25)):
                         signs = draw.choice([Signs(), Signs(";", "'"), Signs(comment="#")])
                         rows = [[draw.choice(["a", "é", "b\nc", "\r\n", "", signs.quote, "x" * 30])
                                  for _ in range(2)] for _ in range(draw.randrange(9))]

@@ -12,7 +12,7 @@ import bwtools
 
 from bwtools._errors import Refused
 
-from tests import foreign
+from tests import foreign, support
 from tests.support import Import, Imported, in_file, source_of, table_of
 
 # each file with the options, the kinds of its columns, its rows as they come back, and a part of
@@ -313,7 +313,7 @@ class Named(unittest.TestCase):
         with zipfile.ZipFile(out, "w") as archive:
             archive.writestr("a.csv", "a,b\n" + "1,x\n" * 20)
         draw = random.Random(93)
-        for _ in range(200):
+        for _ in range(support.sample(40, 200)):
             data = bytearray(out.getvalue())
             for _ in range(draw.randrange(1, 4)):
                 place = draw.choice([draw.randrange(40), draw.randrange(len(data) - 80, len(data))])
@@ -396,7 +396,8 @@ class Drawn(unittest.TestCase):
     def test_separators(self):
         draw, loaded = random.Random(93), 0
         fields = ["a", "b c", "x;y", "1,5", "p|q", "z: u", 'say "a"', "", "one\ntwo", "t\tu"]
-        for _ in range(150):
+        count = support.sample(30, 150)
+        for _ in range(count):
             table = self.table(draw, draw.sample(fields, draw.choice([2, 3, 5])))
             out = io.StringIO()
             csv.writer(out, delimiter=draw.choice(",;\t|"), lineterminator="\n",
@@ -408,11 +409,11 @@ class Drawn(unittest.TestCase):
                 self.assertEqual([column.heading for column in found.columns], table[0])
             if len(table) > 1:
                 self.assertNotEqual(self.imported(f"Sales of 2024\n{out.getvalue()}").refusal, "")
-        self.assertGreater(loaded, 80)
+        self.assertGreater(loaded, count // 2)
 
     def test_runs_of_blanks(self):
         draw = random.Random(94)
-        for _ in range(80):
+        for _ in range(support.sample(20, 80)):
             table = self.table(draw, ["a", "'b  c'", "u,v", "x;y", "''", "'it''s'"])
             table[0] = [f"h{place}" for place in range(len(table[0]))]
             lines = ["".join(draw.choice([" ", "  ", "\t", " \t "]) + field for field in row)
@@ -427,7 +428,7 @@ class Drawn(unittest.TestCase):
 
     def test_changed_rows(self):
         draw = random.Random(95)
-        for _ in range(80):
+        for _ in range(support.sample(16, 80)):
             heading, *rows = self.table(draw, ["a", "b c", 'say "a"', "", "one\ntwo", "x,y"])
             ends = [draw.randrange(1, len(heading) + 3) for _ in rows]
             width = max([len(heading), *ends])
@@ -462,8 +463,8 @@ FIELDS = ["1", "-0", "+5", "007", "1.50", "2.0", "1.25", "1e5", "1E+3", "1.5e3",
 
 class Spellings(unittest.TestCase):
     def test_all_are_kept_or_named(self):
-        draw, loaded = random.Random(93), 0
-        for _ in range(300):
+        draw, loaded, count = random.Random(93), 0, support.sample(60, 300)
+        for _ in range(count):
             kinds = draw.sample(FIELDS, draw.choice([1, 2, 2, 3, 4]))
             fields = draw.choices(kinds, k=draw.randrange(1, 7))
             out = io.StringIO()
@@ -477,7 +478,7 @@ class Spellings(unittest.TestCase):
                 if row != f"{field},x":
                     self.assertEqual(row, ",x", fields)
                     self.assertIn(repr(field.strip()), note.partition("can't be kept")[0], fields)
-        self.assertGreater(loaded, 150)
+        self.assertGreater(loaded, count // 2)
 
 
 class Headings(Imported):

@@ -7,6 +7,8 @@ import unittest
 from bwtools._errors import Refused
 from bwtools.loader import encode
 
+from tests.support import in_fork
+
 
 def refuse(part):
     if part == 2:
@@ -28,17 +30,21 @@ class Parts(unittest.TestCase):
             encode.do_parts(2, lambda part: part and os.kill(os.getpid(), signal.SIGKILL))
 
     def test_no_process_is_left(self):
+        """In a fork, which has no processes of other tests."""
         def interrupt(part):
             if part == 0:
                 raise KeyboardInterrupt
             time.sleep(60)
 
-        begun = time.monotonic()
-        with self.assertRaises(KeyboardInterrupt):
-            encode.do_parts(3, interrupt)
-        self.assertLess(time.monotonic() - begun, 30)
-        with self.assertRaises(ChildProcessError):
-            os.waitpid(-1, os.WNOHANG)
+        def act():
+            begun = time.monotonic()
+            with self.assertRaises(KeyboardInterrupt):
+                encode.do_parts(3, interrupt)
+            self.assertLess(time.monotonic() - begun, 30)
+            with self.assertRaises(ChildProcessError):
+                os.waitpid(-1, os.WNOHANG)
+
+        self.assertEqual(os.waitpid(in_fork(act), 0)[1], 0)
 
 
 class Aside(unittest.TestCase):

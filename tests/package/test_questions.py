@@ -11,7 +11,7 @@ import bwtools
 from bwtools._sql import plan
 from bwtools._sql.plan import Statement
 
-from tests import reference
+from tests import reference, support
 from tests.support import ROOT, Imported
 
 HERE = ROOT / "tests" / "questions"
@@ -123,11 +123,13 @@ class Questions(Imported, reference.Compared):
         return answer and list(answer.rows())
 
     def test_each_way_has_the_rows_of_sqlite(self):
-        """Columns that were listed for one question serve the others, and the same one."""
-        counts = {1: 0, 2: 0}
-        for place, asked, instead in questions():
+        """Columns that were listed for one question serve the others, and the same one. Of those
+        that aren't in the sample, only the way that is taken is compared."""
+        counts, found = {1: 0, 2: 0}, questions()
+        drawn = {place for place, *_ in support.sample_of(found, len(found) // 3, 77)}
+        for place, asked, instead in found:
             wanted = self.reference.rows(instead)
-            for way in counts:
+            for way in counts if place in drawn else ():
                 with self.subTest(place, way=way, asked=asked):
                     rows = self.by(way, asked)
                     if rows is not None:
@@ -135,8 +137,8 @@ class Questions(Imported, reference.Compared):
                         self.compare(rows, wanted)
             with self.subTest(place, asked=asked):
                 self.compare(list(self.connection._database.answer(asked).rows()), wanted)
-        self.assertGreaterEqual(counts[1], 50)
-        self.assertGreaterEqual(counts[2], 80)
+        self.assertGreaterEqual(counts[1], len(drawn) // 2)
+        self.assertEqual(counts[2], len(drawn))
 
     def test_fields_of_plain_columns_are_those_of_the_file(self):
         for name, (data, *_) in self.tables.items():

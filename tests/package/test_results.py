@@ -30,7 +30,7 @@ from bwtools._result import (NumberRows, Numbers, Result, ValueRows, blob_of, nu
 from bwtools._types import kinds
 from bwtools._types.base import Column
 
-from tests.support import PYTHON, Imported, imported, in_fork, texts
+from tests.support import PYTHON, Imported, imported, in_fork, sample, texts
 
 LONG = ("id,n,g\n1,1234567890.12345678,a\n2,1234567890.12345679,a\n3,1234567890.12345680,b\n"
         "4,-0.00000001,b\n5,,b\n")
@@ -493,14 +493,14 @@ def stop(*_):
         raise KeyboardInterrupt
 
 signal.signal(signal.SIGINT, stop)
-connection = bwtools.connect(*sys.argv[2:])
+connection = bwtools.connect(*sys.argv[3:])
 statements = ("SELECT COUNT(*) FROM shop", "SELECT n, m FROM many WHERE n < 9000",
               "SELECT m, COUNT(*), SUM(n) FROM many GROUP BY m",
               "SELECT upper(city) FROM shop, (SELECT 1)", "SELECT n, COUNT(*) FROM long GROUP BY n",
               "SELECT n FROM many WHERE n < 5000 ORDER BY m DESC LIMIT 5",
               "SELECT strftime('%m', day), SUM(price) FROM shop GROUP BY 1")
 wanted = {each: connection.execute(each).fetchall() for each in statements}
-chance, end, counts = random.Random(int(sys.argv[1])), time.monotonic() + 4, [0, 0]
+chance, end, counts = random.Random(int(sys.argv[1])), time.monotonic() + float(sys.argv[2]), [0, 0]
 
 def pest():
     # a machine with much else to do takes longer
@@ -531,10 +531,11 @@ print(min(counts) > 9)
 
 class Interrupted(Results):
     def test_interrupts_at_any_moment_cost_one_statement_each(self):
+        seconds = sample(1, 4)
         done = subprocess.run(
-            [sys.executable, "-c", INTERRUPTED, "5", *(self.folder / name for name in self.tables)],
-            capture_output=True, text=True, env={**os.environ, "PYTHONPATH": str(PYTHON)},
-            check=False)
+            [sys.executable, "-c", INTERRUPTED, "5", str(seconds),
+             *(self.folder / name for name in self.tables)], capture_output=True, text=True,
+            env={**os.environ, "PYTHONPATH": str(PYTHON)}, check=False)
         # Python itself prints what a signal raises in a finalizer
         self.assertEqual((done.returncode, done.stdout), (0, "True\n"), done.stderr)
 

@@ -14,7 +14,7 @@ from bwtools._errors import Refused
 from bwtools.loader.dictionary import texts_of
 from bwtools.loader.encode import Coder
 
-from tests.support import bw, in_file, options, source_of
+from tests.support import bw, in_file, options, sample, source_of
 
 
 def columns_of(data, *words):
@@ -78,7 +78,7 @@ class Columns(unittest.TestCase):
 
     def test_as_the_csv_module_reads(self):
         draw, found = random.Random(8), 0
-        for _ in range(5000):
+        for _ in range(sample(1500, 5000)):
             text = "".join(draw.choices(['"', ",", "\n", "a", "\r\n", "1", '","', '"\n', '\n"'],
                                         k=draw.randrange(1, 16)))
             columns = parts(text, 2)
@@ -86,7 +86,7 @@ class Columns(unittest.TestCase):
                 rows = list(csv.reader(io.StringIO(text, newline=""), strict=True))
                 self.assertEqual([list(each) for each in zip(*rows)], columns, text)
                 found += 1
-        self.assertGreater(found, 100)
+        self.assertGreater(found, 40)
 
 
 class Files(unittest.TestCase):
@@ -114,7 +114,7 @@ class Files(unittest.TestCase):
 
     def test_fields_of_more_lines(self):
         draw = random.Random(9)
-        for _ in range(60):
+        for _ in range(sample(25, 60)):
             rows = [["".join(draw.choices(['"', ",", "\n", "ab", "\r\n", "1"],
                                           k=draw.randrange(6))) for _ in range(3)]
                     for _ in range(draw.randrange(1, 9))]

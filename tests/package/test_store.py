@@ -16,7 +16,7 @@ from bwtools._types.base import Column
 from bwtools._types.dictionary import SortedList
 from bwtools._types.number_format import Style
 
-from tests.support import described, texts
+from tests.support import described, sample_of, texts
 
 WORDS = ("", "a", "a\0b", "b\n", "é", "\ue000", "\U0001f600")
 COLUMNS = [Column("a", "A é", texts(*WORDS), [], ["", "\U0001f600"], "so", "numbers"),
@@ -147,15 +147,15 @@ class Foreign(Files):
             Store(shards)
 
     def test_bits_that_are_flipped(self):
-        """Every bit of each byte that isn't 0, and drawn ones of the others: the file is refused,
-        or everything reads as it was."""
+        """A sample of every bit of each byte that isn't 0, and of drawn ones of the others: the
+        file is refused, or everything reads as it was."""
         self.write(COLUMNS[:3])
         data, drawn = self.path.read_bytes(), random.Random(94)
         right = self.content()
         zeros = [at for at, byte in enumerate(data) if not byte]
         flips = [(at, bit) for at, byte in enumerate(data) if byte for bit in range(8)]
         flips += [(at, drawn.randrange(8)) for at in drawn.sample(zeros, 500)]
-        count = 0
+        count, flips = 0, sample_of(flips, 400, 94)
         for at, bit in flips:
             self.overwrite(at, data[at] ^ 1 << bit)
             try:
@@ -273,9 +273,10 @@ class Foreign(Files):
                 self.refused("columns file")
 
     def test_many_rows(self):
-        for table, row in (("nulls", "0, 'x'"), ("settings", "0, x, x"),
-                           ("columns", "x + 100, 'a', 'a', 'whole', '', '', NULL, NULL, NULL"),
-                           ("named", "'t'")):
+        tables = [("nulls", "0, 'x'"), ("settings", "0, x, x"),
+                  ("columns", "x + 100, 'a', 'a', 'whole', '', '', NULL, NULL, NULL"),
+                  ("named", "'t'")]
+        for table, row in sample_of(tables, 2, 94):
             self.changed("WITH RECURSIVE c (x) AS (SELECT 0 UNION ALL SELECT x + 1 FROM c LIMIT "
                          f"70000) INSERT INTO {table} SELECT {row} FROM c")
             with self.subTest(table):

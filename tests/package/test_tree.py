@@ -256,7 +256,7 @@ class Grammar(unittest.TestCase):
                 f"{one} NOT IN ({two}, 1)", f"{one} COLLATE NOCASE",
                 f"CASE WHEN {one} THEN {two} END"))
 
-        for _ in range(1500):
+        for _ in range(support.sample(300, 1500)):
             sql = f"SELECT {drawn(4)}"
             with self.subTest(sql):
                 try:
@@ -301,26 +301,27 @@ class Drawn(support.TestCase):
 
     def test_statements_and_mutants_are_treated_as_by_sqlite3(self):
         folder, count = pathlib.Path(self.new_folder()), 0
-        for asked, how in selects.compare(SEED, 300, 300, folder):
+        drawn = support.sample(80, 300)
+        for asked, how in selects.compare(SEED, drawn, drawn, folder):
             count += 1
             with self.subTest(asked):
                 self.assertEqual(how, "")
-        self.assertEqual(count, 600)
+        self.assertEqual(count, 2 * drawn)
 
     def test_numbers_mean_what_exact_fractions_say(self):
         """`python3 -m tests.drawn_numbers` draws many more."""
-        told = Counter()
-        found = list(drawn_numbers.differences(SEED, 400, self.new_folder(), told))
+        told, drawn = Counter(), support.sample(100, 400)
+        found = list(drawn_numbers.differences(SEED, drawn, self.new_folder(), told))
         self.assertEqual(found, [])
-        self.assertGreater(told["answered by way 1"], 60)
-        self.assertGreater(told["answered by way 2"], 200)
+        self.assertGreater(told["answered by way 1"], drawn * .15)
+        self.assertGreater(told["answered by way 2"], drawn * .5)
 
     def test_bytes_are_refused_or_answered(self):
         """Random bytes, and random words, of up to 64 KiB."""
         folder, chance = pathlib.Path(self.new_folder()), random.Random(SEED)
         path = support.imported(folder / "t.bw", TRIPS)
         with bwtools.connect(path) as connection:
-            for number in range(300):
+            for number in range(support.sample(60, 300)):
                 size = chance.choice((9, 99, 999, 65_536 if number % 20 == 0 else 99))
                 drawn = [chance.randbytes(size).decode(chance.choice(("latin-1", "utf-8")),
                                                        "replace"),
