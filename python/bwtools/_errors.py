@@ -199,8 +199,9 @@ def status_of(name: str, work: Callable[[], int | None]) -> int:
 
 # The failure of bw, or of the system: nothing is wrong with the statement.
 
-# the statuses of bw: of a file that can't be read or written, and of refused memory
-FILES, MEMORY = 5, 6
+# the statuses of bw: of an input that is rejected, of a file that can't be read or written, and of
+# refused memory
+INPUT, FILES, MEMORY = 3, 5, 6
 # how error 701 begins
 UNREAD = "bw: 701 "
 MEMORIES = ("out of memory", "can't start new thread", "failed to map segment",

@@ -9,7 +9,9 @@ from .._output import FORMATS
 if TYPE_CHECKING:
     import argparse
 
-COLUMNAR = "write files by columns, of which bw reads only the columns that a statement needs"
+COLUMNAR = ("write files by columns, of which bw reads only the columns that a statement needs (the "
+            "default)")
+BY_ROWS = "write table files instead, which take less memory to write, and which older versions read"
 
 
 def new_parser(name: str, text: str, usage: str | None = None) -> argparse.ArgumentParser:
@@ -66,6 +68,13 @@ def add_asking(parser: argparse.ArgumentParser) -> None:
     add_options(parser)
 
 
+def add_order(parser: argparse.ArgumentParser) -> None:
+    """Adds the two orders in which a program may write its files."""
+    orders = parser.add_mutually_exclusive_group()
+    orders.add_argument("--columnar", action="store_true", help=COLUMNAR)
+    orders.add_argument("--by-rows", action="store_true", help=BY_ROWS)
+
+
 def add_loading(parser: argparse.ArgumentParser) -> None:
     """Adds what a command has that loads a folder of shards."""
     from ..loader import importing
@@ -80,7 +89,7 @@ def add_loading(parser: argparse.ArgumentParser) -> None:
                              "are a million rows")
     parser.add_argument("--table", metavar="NAME", dest="name",
                         help="the tables' name (default: that of FOLDER)")
-    parser.add_argument("--columnar", action="store_true", help=COLUMNAR)
+    add_order(parser)
     parser.add_argument("--dry-run", action="store_true",
                         help="print the kind of each column, and write nothing")
     options.add_options(parser)
@@ -98,7 +107,7 @@ def add_import(parser: argparse.ArgumentParser) -> None:
     parser.add_argument("--shards", metavar="N", type=importing.number_of_shards,
                         help="write a folder of N shards; auto: one for each processor, if there "
                              "are a million rows")
-    parser.add_argument("--columnar", action="store_true", help=COLUMNAR)
+    add_order(parser)
     parser.add_argument("--dry-run", action="store_true",
                         help="print the kind of each column, and write nothing")
     parser.add_argument("--verify", action="store_true",

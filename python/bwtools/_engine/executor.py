@@ -6,10 +6,11 @@ from __future__ import annotations
 import functools
 import io
 import os
+import re
 from typing import (TYPE_CHECKING, Any, BinaryIO, Callable, Iterable, Iterator, Protocol, Sequence,
                     TypeVar, Union)
 
-from .._errors import FILES, MEMORY, Failed, Refused
+from .._errors import FILES, INPUT, MEMORY, Failed, Refused
 from .process import AT_ONCE, Query, Session
 
 if TYPE_CHECKING:
@@ -32,6 +33,8 @@ MOST_IN_MEMORY, BLOCK = 1 << 26, 1 << 18
 # so many sessions are kept at most; if there are more files, or memory has no room for their
 # tables, so many work at a time
 MOST_SESSIONS, IN_TURN = 64, 4
+# the statuses of errors of a session, by their first digits
+STATUSES = {"3": INPUT, "8": MEMORY}
 
 
 class Outside(Exception):
@@ -369,8 +372,9 @@ def refusal(told: str) -> Exception:
     if told.startswith("bw: 4"):
         return Refused(told.rstrip("\n"))
     if told:
-        # refused memory, as of a statement
-        return Failed("", told, MEMORY if told.startswith("bw: 8") else FILES)
+        # a column is damaged, or memory was refused, or the file can't be read
+        found = re.search("^bw: ([38])", told, re.MULTILINE)
+        return Failed("", told, STATUSES[found[1]] if found else FILES)
     return Failed("bw session gave no answer and no reason")
 
 

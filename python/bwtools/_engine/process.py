@@ -1,5 +1,6 @@
 """Runs of bw over an open table file: `bw query` answers one statement, and reads the file while it
-scans; `bw session` first has all of it in memory, and then answers many statements.
+scans; `bw session` first has all of it in memory, and then answers many statements. Of a file by
+columns, both have the columns in memory that their statements name.
 
 They are started by posix_spawn: the module subprocess takes as long to import as bw's whole answer
 to a small question. Each has a process group of its own, so that Ctrl-C at a terminal ends what

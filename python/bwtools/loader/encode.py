@@ -500,9 +500,11 @@ def output_of(words: Sequence[Any]) -> bytes:
 
 
 def recode(coded: Coded, schema: pathlib.Path, numbers: pathlib.Path, out: pathlib.Path,
-           by_columns: bool) -> None:
-    """Writes the table of a schema, whose numbers are in place of the codes, perhaps by columns."""
-    output_of(["recode", *["--columnar"] * by_columns, coded.path, schema, numbers, out])
+           by_rows: bool) -> None:
+    """Writes the table of a schema, whose numbers are in place of the codes, by columns or by
+    rows."""
+    order = [] if by_rows else ["--columnar"]
+    output_of(["recode", *order, coded.path, schema, numbers, out])
 
 
 class TooMuch(Exception):

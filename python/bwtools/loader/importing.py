@@ -46,16 +46,17 @@ def import_file(given: argparse.Namespace, out: str, is_folder: bool) -> None:
         table = Table(given.csv, given, room, file, is_folder)
         if len(table.coded.parts) == 1 and not is_folder:
             with Waiting().shown("the table is written"):
-                table.write(0, name, room / "table.bw")
+                table.write(0, name, room / "table.bw", given.by_rows)
             done = put_one(room / "table.bw", table.columns, room, name, path)
         else:
-            done = put_many(load_shards(table, room, name), table.columns, room, name, path)
+            records = load_shards(table, room, name, given.by_rows)
+            done = put_many(records, table.columns, room, name, path)
     # last, since its reader may stop early, as head does
     table.report()
     print(done)
 
 
-def load_shards(table: Table, room: pathlib.Path, name: str) -> list[TableFile]:
+def load_shards(table: Table, room: pathlib.Path, name: str, by_rows: bool) -> list[TableFile]:
     """Writes the shards of a table into the folder `made`, several side by side. Returns their
     records in the order of rows."""
     (room / "made").mkdir()
@@ -63,7 +64,7 @@ def load_shards(table: Table, room: pathlib.Path, name: str) -> list[TableFile]:
     count = processes_for(shards, table.source.text.marks().size)
 
     def load_some(process: int) -> list[TableFile]:
-        return [table.record(place, name, shard_file(room / "made", place))
+        return [table.record(place, name, shard_file(room / "made", place), by_rows)
                 for place in range(process, shards, count)]
 
     found = encode.do_parts(count, load_some)

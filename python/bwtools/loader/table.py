@@ -452,16 +452,16 @@ class Table:
             lines.append(f"COLUMN {column.name} {least} {greatest}{null}")
         return "\n".join(lines) + "\n"
 
-    def write(self, place: int, name: str, out: pathlib.Path) -> None:
-        """Writes the table file of a part, by columns if that is asked for."""
+    def write(self, place: int, name: str, out: pathlib.Path, by_rows: bool) -> None:
+        """Writes the file of a part, by columns or by rows."""
         schema = self.folder / f"schema-{place}"
         schema.write_text(self.schema(name), encoding="ascii")
         encode.recode(self.coded.parts[place].coded, schema, self.numbers_path(place), out,
-                      getattr(self.given, "columnar", False))
+                      by_rows)
 
-    def record(self, place: int, name: str, out: pathlib.Path) -> TableFile:
-        """Writes the table file of a part, and returns its record among shards."""
-        self.write(place, name, out)
+    def record(self, place: int, name: str, out: pathlib.Path, by_rows: bool) -> TableFile:
+        """Writes the file of a part, and returns its record among shards."""
+        self.write(place, name, out, by_rows)
         return record_of(out, out.name, self.coded.parts[place].coded.rows)
 
     def report(self) -> None:
@@ -548,7 +548,8 @@ def write_numbers(table: Table, folder: pathlib.Path, out: pathlib.Path) -> None
     with open(out, "wb") as file:
         file.write(",".join(column.name for column in table.columns).encode("ascii") + b"\n")
         for place in range(len(table.coded.parts)):
-            table.write(place, "t", folder / "table.bw")
+            # bw dumps these as it reads them, a file by columns only once it is in memory
+            table.write(place, "t", folder / "table.bw", by_rows=True)
             dump(folder / "table.bw", file, b"NULL" if len(table.columns) == 1 else b"")
             if file.tell() > MOST_BYTES:
                 raise Refused(f"{table.source.path}: its numbers take more than 1 GiB of CSV, "
