@@ -41,8 +41,9 @@ use std::alloc::Global;
 /// 610); those of the columns that are read, in the schema's order, each completely (306 to 308); the
 /// sink's (702). 701 if a read fails or the file has changed since it was opened, and 801 at any
 /// time, if memory is refused. Nothing is written before the last column was validated, and the file
-/// was found unchanged. The columns that are read are in memory, and the result's text. Each device's
-/// count of failures must be less than 2^64 - 1.
+/// was found unchanged. In memory are some segments of the columns that are read, or all of them once
+/// one has an error, and the result's text. Each device's count of failures must be less than
+/// 2^64 - 1.
 pub fn answer_by_columns<D: RandomAccess, K: Sink>(
     alloc: Global,
     device: &mut D,

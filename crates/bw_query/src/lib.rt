@@ -4,7 +4,8 @@
 //! the bytes that were read are a table file, and the sink took the CSV text of the meaning over
 //! its rows. [`answer_in_memory`] does the same over a table that was read before, and
 //! [`answer_with_programs`] keeps programs for many statements. [`answer_by_columns`] and
-//! [`dump_by_columns`] do it over a file by columns, and read only the columns that are needed.
+//! [`dump_by_columns`] do it over a file by columns, and read only the columns that are needed, some
+//! segments at a time.
 //!
 //! Read `specs/TableAnswer.antt` first, then `table_calls.rt`; and `memory_calls.rt` with
 //! `specs/MemoryAnswer.antt`, and `columnar_calls.rt` with `specs/ColumnarAnswer.antt`.
