@@ -11,6 +11,6 @@ class Sample(support.TestCase):
         done = support.tool(script, "--share", share, "--seed", "94")
         self.assertEqual((done.status, done.err), (0, ""), done.out)
         self.assertRegex(done.out, r"\n[0-9]{2,} trials, 0 faults\n\Z")
-        listed = support.run([script, "--list"])
+        listed = support.tool(script, "--list")
         tried = re.findall(r"^(\w+): [0-9]+ trials, 0 faults", done.out, re.MULTILINE)
         self.assertEqual([line.split()[0] for line in listed.out.splitlines()], tried)
