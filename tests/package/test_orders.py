@@ -104,7 +104,8 @@ class Damage(Imported):
         with bwtools.connect(t=self.folder / name) as connection:
             for statement in ASKED:
                 try:
-                    found.append(connection.execute(f"SELECT {statement.format(column)}").fetchall())
+                    cursor = connection.execute(f"SELECT {statement.format(column)}")
+                    found.append(cursor.fetchall())
                 except bwtools.OperationalError as error:
                     found.append(str(error))
         return found
