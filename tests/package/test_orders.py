@@ -146,7 +146,7 @@ class Damage(Imported):
             whole = path.read_bytes()
             file = column_files.File(whole)
             right = {column: self.answers(name, column) for column in self.NAMES}
-            for number in range(12):
+            for number in range(8):
                 place = number % 4
                 at = chance.randrange(file.place(place, 0), file.place(place + 1, 0))
                 changed = bytearray(whole)
@@ -155,7 +155,7 @@ class Damage(Imported):
                 with self.subTest(name, at=at):
                     self.compare(self.answers(name, self.NAMES[place]),
                                  column_files.File(bytes(changed)), place)
-                    other = self.NAMES[(place + 1 + number // 4 % 3) % 4]
+                    other = self.NAMES[(place + 1 + number // 4) % 4]
                     self.assertEqual(self.answers(name, other), right[other])
             self.put(path, whole)
 
