@@ -131,7 +131,7 @@ def by_columns(given: argparse.Namespace) -> Iterator[Sequence[str]]:
             continue
         calls: Dict[str, Words] = {
             order: [TOOLS / "bw-import", *options, "--table", "t", path, given.folder / "order.bw"]
-            for order, options in (("rows", []), ("columns", ["--columnar"]))}
+            for order, options in (("rows", ["--by-rows"]), ("columns", []))}
         found = run_in_turn(calls, given.runs, keep=False)
         rows, columns = (found[order].processor / 1000 for order in calls)
         yield [name, f"{rows:.2f}", f"{columns:.2f}", f"{columns / rows:.2f}",

@@ -9,9 +9,9 @@ from .._output import FORMATS
 if TYPE_CHECKING:
     import argparse
 
-COLUMNAR = ("write files by columns, of which bw reads only the columns that a statement needs (the "
-            "default)")
-BY_ROWS = "write table files instead, which take less memory to write, and which older versions read"
+COLUMNAR = ("write files by columns, of which bw reads only the columns that a statement needs "
+            "(default)")
+BY_ROWS = "write table files instead, which older versions read, too"
 
 
 def new_parser(name: str, text: str, usage: str | None = None) -> argparse.ArgumentParser:

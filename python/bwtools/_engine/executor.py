@@ -267,9 +267,10 @@ class Local:
 
 class Sessions:
     """A session of bw for each of some open table files, begun when it is needed, and again if it
-    has ended between two statements. They work side by side, and have the tables in memory: if
-    these are too many or too large for that, a few work at a time, and end after each call. If one
-    fails, all are ended, so no result of theirs is taken for another one's."""
+    has ended between two statements. They work side by side, and have the tables in memory, or the
+    columns that statements named: if these are too many or too large for that, a few work at a
+    time, and end after each call. If one fails, all are ended, so no result of theirs is taken for
+    another one's."""
 
     def __init__(self, files: Sequence[BinaryIO], options: Sequence[str] = (),
                  tell: Tell = lambda told: None, names: Sequence[str] = ()) -> None:
