@@ -125,8 +125,10 @@ class Asked(Compared):
         self.connection, self.base = bwtools.connect(path), Reference()
         self.addCleanup(self.connection.close)
         self.addCleanup(self.base.close)
-        self.base.add(table.name, [(each.name, each.type) for each in table.columns],
-                      zip(*(each.values for each in table.columns)))
+        # also those of nulls, of which nothing is drawn
+        columns = getattr(table, "all", table.columns)
+        self.base.add(table.name, [(each.name, each.type) for each in columns],
+                      zip(*(each.values for each in columns)))
 
     def answers(self, sql: str) -> Iterator[Any]:
         """Yields the answer of each way that serves a statement, or what refuses it."""
