@@ -6,6 +6,7 @@ use crate::claim::Claim;
 use bw_lanes::LANES;
 use bw_model::{Column, Cond, Operand, Row, Value};
 use bw_program::{Instr, Program};
+use indexmap::IndexSet;
 use std::alloc::{AllocError, Global};
 
 /// All combinations of values are tried if they are at most so many. A column has at most so many
@@ -23,7 +24,7 @@ const MOST_SHARED: usize = 32;
 struct Values {
     lo: i64,
     hi: i64,
-    of: Vec<Value>,
+    of: IndexSet<Value>,
     /// Whether the condition or the program reads the column.
     is_read: bool,
 }
@@ -34,7 +35,7 @@ impl Values {
         Values {
             lo: column.lo,
             hi: column.hi,
-            of: Vec::new(alloc),
+            of: IndexSet::new(alloc),
             is_read: false,
         }
     }
@@ -46,8 +47,8 @@ impl Values {
             return Ok(());
         }
         for near in [number, number.saturating_sub(1), number.saturating_add(1)] {
-            if self.lo <= near && near <= self.hi && !self.of.contains(&Some(near)) {
-                self.of.push(Some(near))?;
+            if self.lo <= near && near <= self.hi {
+                self.of.insert(Some(near))?;
             }
         }
         Ok(())
@@ -56,16 +57,12 @@ impl Values {
     /// Adds the first and the last values, and null, if the column may be null; the first alone, if
     /// the column isn't read.
     fn add_bounds(&mut self, is_nullable: bool) -> Result<(), AllocError> {
-        if !self.is_read {
-            return Ok(self.of.push(Some(self.lo))?);
+        self.of.insert(Some(self.lo))?;
+        if self.is_read {
+            self.of.insert(Some(self.hi))?;
         }
-        for bound in [self.lo, self.hi] {
-            if !self.of.contains(&Some(bound)) {
-                self.of.push(Some(bound))?;
-            }
-        }
-        if is_nullable {
-            self.of.push(None)?;
+        if self.is_read && is_nullable {
+            self.of.insert(None)?;
         }
         Ok(())
     }
@@ -206,7 +203,7 @@ impl Samples {
             let Some(values) = self.columns.get(from) else {
                 return Ok(());
             };
-            let number = match (place, values.of.get(place.wrapping_sub(2))) {
+            let number = match (place, values.of.get_index(place.wrapping_sub(2))) {
                 (0, _) => values.lo,
                 (1, _) => values.hi,
                 (_, Some(Some(number))) => *number,
@@ -285,7 +282,7 @@ impl Samples {
             let values = self
                 .columns
                 .get(column)
-                .map_or(&[] as &[Value], |found| &found.of);
+                .map_or(&[] as &[Value], |found| found.of.as_slice());
             let count = (values.len() as u64).max(1);
             let place = if is_next {
                 rest
