@@ -72,4 +72,4 @@ class Files(support.TestCase):
         page = (ROOT / "docs" / "VERIFY.md").read_text(encoding="utf-8")
         for name in LIMITS:
             lines = (ROOT / "verify" / f"{name}.py").read_text(encoding="utf-8").count("\n")
-            self.assertIn(f"| `verify/{name}.py` | {lines} |", page)
+            self.assertIn(f"|`verify/{name}.py`|{lines}|", page)

@@ -33,6 +33,7 @@ impl SegmentConsumer for AnswerConsumer<'_, '_> {
 
     ghost gives = { λ start. IsTextFrom start.answer start.scan.now };
 
+    #[inline(always)]
     fn take<S: Segment>(&mut self, segment: &S, registers: &mut Registers) -> Result<(), Fault> {
         let more = take_segment(segment, self.scan, registers, &mut self.answer)?;
         self.scanned = self.scanned.plus(more);
@@ -53,6 +54,7 @@ impl SegmentConsumer for AnswerConsumer<'_, '_> {
 }
 
 /// Consumes the rows of a segment that a scan finds. Returns the counts of its run.
+#[inline(always)]
 fn take_segment<S: Segment>(
     segment: &S,
     scan: &Scan,
@@ -73,6 +75,7 @@ fn take_segment<S: Segment>(
 }
 
 /// Consumes the rows of a segment that a program selects. Returns the counts of its run.
+#[inline(always)]
 fn take_by_program<S: Segment>(
     segment: &S,
     certified: &Certified,
