@@ -20,8 +20,11 @@ use bw_model::Fault;
 use std::alloc::Global;
 use std::mem::replace;
 
-/// The bytes of a window's columns, if it has more than one segment.
-const WINDOW_SIZE: usize = 262_144;
+/// The bytes of a window's columns, if it has more than one segment: at least so many in all, and so
+/// many of each column on average.
+const WINDOW_SIZE: usize = 131_072;
+
+const READ_SIZE: usize = 8_192;
 
 impl SegmentWindow {
     /// Returns a window without a segment, before the first one of a file of which the columns are to
@@ -181,11 +184,12 @@ fn segments_at_once(columnar: &ColumnarTable, wanted: &[bool]) -> u32
     ensures { 1 ≤ result }
 {
     let table = &columnar.table;
-    let mut size = 0;
+    let (mut count, mut size) = (0, 0);
     for col in 0..wanted.len() {
         if wanted[col] {
+            count += 1;
             size += block_size(table.layout, &table.placement, col);
         }
     }
-    (WINDOW_SIZE / size.max(8)).max(1) as u32
+    (WINDOW_SIZE.max(READ_SIZE * count) / size.max(8)).max(1) as u32
 }
