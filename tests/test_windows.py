@@ -9,8 +9,8 @@ from tests.column_files import LAYOUTS, File, outcome
 from tests.second_checker import Both
 from tests.support import bw
 
-# In either layout a block of each column has some 4,096 bytes. So all segments are read at a time if
-# at most five columns are named, and two of more than ten. The last segment has fewer rows.
+# In either layout a block of each column has some 4,096 bytes. So all segments are read at a time
+# if at most five columns are named, and two of more than ten. The last segment has fewer rows.
 COLUMNS, ROWS, HIGH = 40, 512 * 5 + 77, 2 ** 61
 NAMES = [f"c{number}" for number in range(COLUMNS)]
 
