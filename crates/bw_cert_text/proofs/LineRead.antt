@@ -23,7 +23,7 @@ use Rattle.bw_text.specs.Register.{register_of}
 use Rattle.bw_cert_text.specs.Token.{Number, Perhaps, IsSpelled, AreSpelled, one_key, two_key, none, next}
 use Rattle.bw_cert_text.specs.Token.{column_tokens, reason_tokens, condition_tokens}
 use Rattle.bw_cert_text.specs.Token.{instruction_tokens, edge_tokens, keep_tokens, end_tokens}
-use Rattle.bw_cert_text.specs.Token.{part_tokens, part_line}
+use Rattle.bw_cert_text.specs.Token.{tokens_before_end, number_before_end}
 use Rattle.bw_text.specs.LineKind.{kind_spelling, kind_of}
 use Rattle.bw_text.specs.Form.{form_of}
 use Rattle.bw_cert_text.specs.Connective.{connective_of}
@@ -33,7 +33,7 @@ use Rattle.bw_text.proofs.WordSpelling.{kind_is, form_is}
 
 -- a line says what was read, with its number
 abbrev pub IsSaid : ParsedLine → ℕ → List (List ℕ) → Type 0
-IsSaid (Before part) line words = (line ≡ part_line part) × AreSpelled (part_tokens part) words
+IsSaid (Before part) line words = (line ≡ number_before_end part) × AreSpelled (tokens_before_end part) words
 IsSaid (End end) line words = (line ≡ end.line) × AreSpelled (end_tokens end) words
 
 -- the first word of a line is the word of a kind

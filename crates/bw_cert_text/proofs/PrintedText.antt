@@ -23,9 +23,9 @@ use Rattle.bw_cert_text.specs.CertificateFields.{ColumnFields, One, Two, ChainFi
 use Rattle.bw_cert_text.specs.CertificateFields.{Condition, Instruction, Kept, BodyFields}
 use Rattle.bw_cert_text.specs.CertificateFields.{CertificateFields}
 use Rattle.bw_cert_text.specs.Columns.{is_found, are_columns, has_columns}
-use Rattle.bw_cert_text.specs.CertificateText.{section_of, with_part, end_alone, SpellsFrom}
+use Rattle.bw_cert_text.specs.CertificateText.{section_of, with_line, end_alone, SpellsFrom}
 use Rattle.bw_cert_text.specs.CertificateText.{before_end, at_end, IsCertificateText}
-use Rattle.bw_cert_text.specs.LineText.{Part, Node, Chain, Row, Body}
+use Rattle.bw_cert_text.specs.LineText.{LineBeforeEnd, Node, Chain, Row, Body}
 use Rattle.bw_cert_text.specs.PrintText.{token_text, token_line, lines_text, body_tokens}
 use Rattle.bw_cert_text.specs.PrintText.{schema_spelling, spelling_at, respelled_columns}
 use Rattle.bw_cert_text.specs.PrintText.{respelled_chain, respell, certificate_text, print_text}
@@ -34,7 +34,7 @@ use Rattle.bw_cert_text.specs.Reprint.{is_small, numbers_fit}
 use Rattle.bw_cert_text.specs.Token.{Token, Key, Number, Perhaps, Column, Register, IsSpelled}
 use Rattle.bw_cert_text.specs.Token.{AreSpelled, none, next, node_tokens, column_tokens}
 use Rattle.bw_cert_text.specs.Token.{chain_tokens, reason_tokens, row_tokens, edge_tokens}
-use Rattle.bw_cert_text.specs.Token.{entry_tokens, end_tokens, part_tokens, part_line}
+use Rattle.bw_cert_text.specs.Token.{entry_tokens, end_tokens, tokens_before_end, number_before_end}
 use Rattle.bw_cert_text.specs.Connective.{connective_spelling}
 use Rattle.bw_model.proofs.BitsLemmas.{both}
 use Rattle.bw_text.proofs.DecimalLemmas.{natural_of-decimal, plain_number}
@@ -187,12 +187,12 @@ from_lower : (s t : ℕ) (lines : List NumberedWords) (c : CertificateFields) �
 from_lower s t _ _ le (before_end part h says rest) = before_end part (omega (arith, le, h)) says rest
 from_lower s t _ _ le (at_end end says) = at_end end says
 
-unfoldable with_section : {A : Type 0} → (A → Part) → (ℕ → A → A) → ℕ → List A → CertificateFields → CertificateFields
+unfoldable with_section : {A : Type 0} → (A → LineBeforeEnd) → (ℕ → A → A) → ℕ → List A → CertificateFields → CertificateFields
 with_section part at first [] c = c
-with_section part at first (x ∷ xs) c = with_part (part (at first x)) (with_section part at (first + 1) xs c)
+with_section part at first (x ∷ xs) c = with_line (part (at first x)) (with_section part at (first + 1) xs c)
 
-module _ {A : Type 0} (part : A → Part) (tokens : A → List Token) (at : ℕ → A → A) (s : ℕ) (same_section : (x : A) → section_of (part x) ≡ s)
-    (same_tokens : (n : ℕ) (x : A) → part_tokens (part (at n x)) ≡ tokens x) (same_line : (n : ℕ) (x : A) → n ≡ part_line (part (at n x))) (begins : (x : A) → begins_line (tokens x) ≡ true) where
+module _ {A : Type 0} (part : A → LineBeforeEnd) (tokens : A → List Token) (at : ℕ → A → A) (s : ℕ) (same_section : (x : A) → section_of (part x) ≡ s)
+    (same_tokens : (n : ℕ) (x : A) → tokens_before_end (part (at n x)) ≡ tokens x) (same_line : (n : ℕ) (x : A) → n ≡ number_before_end (part (at n x))) (begins : (x : A) → begins_line (tokens x) ≡ true) where
   section_spelled : (first : ℕ) (xs : List A) (rest : List ℕ) (c : CertificateFields) → list_all (λ x. list_all is_clear (tokens x)) xs ≡ true →
       SpellsFrom s (numbered_from (first + length xs) (cut_lines rest)) c → SpellsFrom s (numbered_from first (cut_lines (lines_text tokens xs ++ rest))) (with_section part at first xs c)
   unfolding lines_text with_section
@@ -219,12 +219,12 @@ end_spelled n end h =
     ap (λ (t : List ℕ). numbered_from n (cut_lines t)) (sym (append-nil (token_line (end_tokens end)))) ∙ said in
     rw whole (at_end (record { line = n; row = end.row }) (refl, tokens_spelled (end_tokens end) h))
 
-section_after : {A : Type 0} (part : A → Part) (at : ℕ → A → A) (whole : List A → CertificateFields) → ((x : A) (xs : List A) → with_part (part x) (whole xs) ≡ whole (x ∷ xs)) →
+section_after : {A : Type 0} (part : A → LineBeforeEnd) (at : ℕ → A → A) (whole : List A → CertificateFields) → ((x : A) (xs : List A) → with_line (part x) (whole xs) ≡ whole (x ∷ xs)) →
     (first : ℕ) (xs : List A) → with_section part at first xs (whole []) ≡ whole (numbered_on at first xs)
 unfolding numbered_on with_section
 section_after part at whole step first [] = refl
 section_after part at whole step first (x ∷ xs) =
-    ap (with_part (part (at first x))) (section_after part at whole step (first + 1) xs) ∙ step (at first x) (numbered_on at (first + 1) xs)
+    ap (with_line (part (at first x))) (section_after part at whole step (first + 1) xs) ∙ step (at first x) (numbered_on at (first + 1) xs)
 
 -- a certificate without its end, put in front of that of which this is the end
 put_together : (nodes : List NodeLine) (chains : List ChainFields) (rows : List ProductLine) (body : List BodyFields) (a b r y : ℕ) (end : EndLine) →

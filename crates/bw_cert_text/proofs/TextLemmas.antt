@@ -5,12 +5,12 @@ use Rattle.bw_model.specs.Fault.{◌>>=◌}
 use Rattle.bw_text.specs.Lines.{NumberedWords}
 use Rattle.bw_cert_text.specs.declared.lines.EndLine.{EndLine}
 use Rattle.bw_cert_text.specs.CertificateFields.{CertificateFields}
-use Rattle.bw_cert_text.specs.LineText.{Part, ParsedLine, Before, End}
-use Rattle.bw_cert_text.specs.CertificateText.{section_of, with_part, end_alone, form_fault}
+use Rattle.bw_cert_text.specs.LineText.{LineBeforeEnd, ParsedLine, Before, End}
+use Rattle.bw_cert_text.specs.CertificateText.{section_of, with_line, end_alone, form_fault}
 use Rattle.bw_cert_text.specs.CertificateText.{parse_line_on, last_line, certificate_after, certificate_from}
 
-both_steps : (r : Result CertificateFields Fault) (part : Part) (f g : CertificateFields → CertificateFields) → ((x : CertificateFields) → g x ≡ f (with_part part x)) →
-    ((r >>= λ rest. Ok (with_part part rest)) >>= λ rest. Ok (f rest)) ≡ (r >>= λ rest. Ok (g rest))
+both_steps : (r : Result CertificateFields Fault) (part : LineBeforeEnd) (f g : CertificateFields → CertificateFields) → ((x : CertificateFields) → g x ≡ f (with_line part x)) →
+    ((r >>= λ rest. Ok (with_line part rest)) >>= λ rest. Ok (f rest)) ≡ (r >>= λ rest. Ok (g rest))
 both_steps (Ok x) part f g same = ap Ok (sym (same x))
 both_steps (Err fault) part f g same = refl
 
@@ -30,8 +30,8 @@ module _ (whole : Result CertificateFields Fault) (section : ℕ) (lines rest : 
       told ∙ ap (λ (lines : List NumberedWords). certificate_from section lines end >>= λ c. Ok (f c)) e
       ∙ ap (λ (r : Result ParsedLine Fault). (r >>= λ said. certificate_after rest (λ s. certificate_from s rest end) said) >>= λ c. Ok (f c)) is
 
-  pub whole-before : lines ≡ line ∷ rest → (part : Part) (g : CertificateFields → CertificateFields) (next : ℕ) → parse_line_on section line ≡ Ok (Before part) → next ≡ section_of part →
-      ((x : CertificateFields) → g x ≡ f (with_part part x)) → whole ≡ (certificate_from next rest end >>= λ c. Ok (g c))
+  pub whole-before : lines ≡ line ∷ rest → (part : LineBeforeEnd) (g : CertificateFields → CertificateFields) (next : ℕ) → parse_line_on section line ≡ Ok (Before part) → next ≡ section_of part →
+      ((x : CertificateFields) → g x ≡ f (with_line part x)) → whole ≡ (certificate_from next rest end >>= λ c. Ok (g c))
   whole-before e part g next is same step =
       whole-next e (Ok (Before part)) is ∙ both_steps (certificate_from (section_of part) rest end) part f g step
       ∙ ap (λ (s : ℕ). certificate_from s rest end >>= λ c. Ok (g c)) (sym same)

@@ -7,8 +7,8 @@ use Rattle.bw_text.specs.Lines.{NumberedWords, lines_in, end_in, from_line}
 use Rattle.bw_cert_text.specs.declared.lines.EndLine.{EndLine}
 use Rattle.bw_cert_text.specs.CertificateShape.{CertificateShape}
 use Rattle.bw_cert_text.specs.CertificateFields.{CertificateFields, certificate_fields}
-use Rattle.bw_cert_text.specs.LineText.{Part, ParsedLine, Before, End, parse_line_in}
-use Rattle.bw_cert_text.specs.CertificateText.{section_of, with_part, end_alone, SpellsFrom}
+use Rattle.bw_cert_text.specs.LineText.{LineBeforeEnd, ParsedLine, Before, End, parse_line_in}
+use Rattle.bw_cert_text.specs.CertificateText.{section_of, with_line, end_alone, SpellsFrom}
 use Rattle.bw_cert_text.specs.CertificateText.{before_end, at_end, IsCertificateText, form_fault}
 use Rattle.bw_cert_text.specs.CertificateText.{is_before, in_section_order, last_line, certificate_after}
 use Rattle.bw_cert_text.specs.CertificateText.{certificate_from, certificate_of}
@@ -29,11 +29,11 @@ text_read section (line ∷ lines) end c e = go (parse_line_in line) refl e (λ 
     ended last is (l ∷ rest) e = absurd (cc e)
     ended last is [] e = let same : end_alone last ≡ c = cc e in rw (← same) (at_end last (line_read line.number line.words (End last) is))
 
-    put : (part : Part) → parse_line_in line ≡ Some (Before part) → section ≤ section_of part → (r : Result CertificateFields Fault) → Reading lines end (section_of part) ≡ r →
-        (r >>= λ rest. Ok (with_part part rest)) ≡ Ok c → ((s : ℕ) (x : CertificateFields) → Reading lines end s ≡ Ok x → SpellsFrom s lines x) → SpellsFrom section (line ∷ lines) c
+    put : (part : LineBeforeEnd) → parse_line_in line ≡ Some (Before part) → section ≤ section_of part → (r : Result CertificateFields Fault) → Reading lines end (section_of part) ≡ r →
+        (r >>= λ rest. Ok (with_line part rest)) ≡ Ok c → ((s : ℕ) (x : CertificateFields) → Reading lines end s ≡ Ok x → SpellsFrom s lines x) → SpellsFrom section (line ∷ lines) c
     put part is le (Err fault) read e more = absurd (cc e)
     put part is le (Ok rest) read e more =
-        let same : with_part part rest ≡ c = cc e in
+        let same : with_line part rest ≡ c = cc e in
         rw (← same) (before_end part le (line_read line.number line.words (Before part) is) (more (section_of part) rest read))
 
     tested : (said : ParsedLine) → parse_line_in line ≡ Some said → (b : Bool) → is_before section said ≡ b →

@@ -7,23 +7,23 @@ use Rattle.bw_model.specs.Fault.{at_line, is_memory, ◌>>=◌, refused_if}
 use Rattle.bw_text.specs.Lines.{NumberedWords, lines_in, end_in, from_line}
 use Rattle.bw_cert_text.specs.declared.lines.EndLine.{EndLine}
 use Rattle.bw_cert_text.specs.CertificateFields.{CertificateFields}
-use Rattle.bw_cert_text.specs.LineText.{Part, Node, Chain, Row, Body, ParsedLine, Before, End}
+use Rattle.bw_cert_text.specs.LineText.{LineBeforeEnd, Node, Chain, Row, Body, ParsedLine, Before, End}
 use Rattle.bw_cert_text.specs.LineText.{parse_line_in}
-use Rattle.bw_cert_text.specs.Token.{Says, part_line, part_tokens, end_tokens}
+use Rattle.bw_cert_text.specs.Token.{Says, number_before_end, tokens_before_end, end_tokens}
 
 -- the sections in their order: nodes, chains, product rows, and the lines after them
-abbrev pub section_of : Part → ℕ
+abbrev pub section_of : LineBeforeEnd → ℕ
 section_of (Node node) = 0
 section_of (Chain chain) = 1
 section_of (Row row) = 2
 section_of (Body body) = 3
 
 -- a certificate with one more line before those of its section, and one that has only its end
-abbrev pub with_part : Part → CertificateFields → CertificateFields
-with_part (Node node) c = record c { nodes = node ∷ c.nodes }
-with_part (Chain chain) c = record c { chains = chain ∷ c.chains }
-with_part (Row row) c = record c { products = row ∷ c.products }
-with_part (Body body) c = record c { body = body ∷ c.body }
+abbrev pub with_line : LineBeforeEnd → CertificateFields → CertificateFields
+with_line (Node node) c = record c { nodes = node ∷ c.nodes }
+with_line (Chain chain) c = record c { chains = chain ∷ c.chains }
+with_line (Row row) c = record c { products = row ∷ c.products }
+with_line (Body body) c = record c { body = body ∷ c.body }
 
 abbrev pub end_alone : EndLine → CertificateFields
 end_alone end = record { nodes = []; chains = []; products = []; body = []; end = end }
@@ -32,10 +32,10 @@ end_alone end = record { nodes = []; chains = []; products = []; body = []; end 
 -- of this section or a later one, as the lines after it are of that section or a later one.
 pub data SpellsFrom : ℕ → List NumberedWords → CertificateFields → Type 0 where
   before_end : {section : ℕ} {line : NumberedWords}
-      (part : Part) {lines : List NumberedWords} {rest : CertificateFields} →
-      section ≤ section_of part → Says line (part_line part) (part_tokens part)
+      (part : LineBeforeEnd) {lines : List NumberedWords} {rest : CertificateFields} →
+      section ≤ section_of part → Says line (number_before_end part) (tokens_before_end part)
       → SpellsFrom (section_of part) lines rest →
-      SpellsFrom section (line ∷ lines) (with_part part rest)
+      SpellsFrom section (line ∷ lines) (with_line part rest)
   at_end : {section : ℕ} {line : NumberedWords} (end : EndLine) →
       Says line end.line (end_tokens end) → SpellsFrom section (line ∷ []) (end_alone end)
 
@@ -70,7 +70,7 @@ last_line (line ∷ lines) x = Err (form_fault line.number)
 abbrev pub certificate_after : List NumberedWords → (ℕ → Result CertificateFields Fault)
     → ParsedLine → Result CertificateFields Fault
 certificate_after lines after (Before part) =
-    after (section_of part) >>= λ rest. Ok (with_part part rest)
+    after (section_of part) >>= λ rest. Ok (with_line part rest)
 certificate_after lines after (End end) = last_line lines (end_alone end)
 
 -- the certificate of these lines, none of which may be of a section before this one, or their first

@@ -36,14 +36,14 @@ use Rattle.bw_text.specs.Form.{form_of}
 use Rattle.bw_cert_text.specs.Connective.{connective_of}
 
 -- a line before the end, and any line
-pub data Part : Type 0 where
-  Node : NodeLine → Part
-  Chain : ChainFields → Part
-  Row : ProductLine → Part
-  Body : BodyFields → Part
+pub data LineBeforeEnd : Type 0 where
+  Node : NodeLine → LineBeforeEnd
+  Chain : ChainFields → LineBeforeEnd
+  Row : ProductLine → LineBeforeEnd
+  Body : BodyFields → LineBeforeEnd
 
 pub data ParsedLine : Type 0 where
-  Before : Part → ParsedLine
+  Before : LineBeforeEnd → ParsedLine
   End : EndLine → ParsedLine
 
 -- n v low high

@@ -20,7 +20,7 @@ use Rattle.bw_cert_text.specs.declared.lines.EdgeProducts.{EdgeProducts}
 use Rattle.bw_cert_text.specs.declared.lines.EndLine.{EndLine}
 use Rattle.bw_cert_text.specs.CertificateFields.{ColumnFields, One, Two, ChainFields, KeepFields}
 use Rattle.bw_cert_text.specs.CertificateFields.{EntryFields, Condition, Instruction, Join, Kept}
-use Rattle.bw_cert_text.specs.LineText.{Part, Node, Chain, Row, Body}
+use Rattle.bw_cert_text.specs.LineText.{LineBeforeEnd, Node, Chain, Row, Body}
 use Rattle.bw_text.specs.Register.{register_of}
 use Rattle.bw_cert_text.specs.Connective.{connective_spelling}
 
@@ -131,14 +131,14 @@ abbrev pub end_tokens : EndLine → List Token
 end_tokens end = Key (codes "END") ∷ Number end.row ∷ []
 
 -- any line before the end: its items, and its number
-abbrev pub part_tokens : Part → List Token
-part_tokens (Node node) = node_tokens node
-part_tokens (Chain chain) = chain_tokens chain
-part_tokens (Row row) = row_tokens row
-part_tokens (Body body) = entry_tokens body.entry
+abbrev pub tokens_before_end : LineBeforeEnd → List Token
+tokens_before_end (Node node) = node_tokens node
+tokens_before_end (Chain chain) = chain_tokens chain
+tokens_before_end (Row row) = row_tokens row
+tokens_before_end (Body body) = entry_tokens body.entry
 
-abbrev pub part_line : Part → ℕ
-part_line (Node node) = node.line
-part_line (Chain chain) = chain.line
-part_line (Row row) = row.line
-part_line (Body body) = body.line
+abbrev pub number_before_end : LineBeforeEnd → ℕ
+number_before_end (Node node) = node.line
+number_before_end (Chain chain) = chain.line
+number_before_end (Row row) = row.line
+number_before_end (Body body) = body.line

@@ -8,7 +8,7 @@ ghost use Rattle.bw_cert_text.specs.LineText.{columns_after, chain_in, reason_in
 ghost use Rattle.bw_cert_text.specs.LineText.{condition_in, instruction_in, edges_in, keep_in};
 ghost use Rattle.bw_text.specs.declared.line_kind.LineKind.TheVariants as kinds;
 ghost use Rattle.bw_cert_text.specs.LineText.{Before, body_at, parse_line_after, parse_line_in};
-ghost use Rattle.bw_cert_text.specs.ParsedFields.{part_fields, parsed_fields};
+ghost use Rattle.bw_cert_text.specs.ParsedFields.{fields_before_end, parsed_fields};
 
 use crate::connective::connective_of;
 use crate::edge_pairs::EdgePairs;
@@ -25,7 +25,7 @@ use std::alloc::{AllocError, Global};
 
 /// A line before the end. Its words are those of the text, and its pairs stand elsewhere.
 #[derive(Drop)]
-pub(crate) enum Part<'a, 'b> {
+pub(crate) enum LineBeforeEnd<'a, 'b> {
     Node(NodeLine),
     Chain(ChainLine<'a>),
     Row(ProductLine),
@@ -35,7 +35,7 @@ pub(crate) enum Part<'a, 'b> {
 /// A line.
 #[derive(Drop)]
 pub(crate) enum ParsedLine<'a, 'b> {
-    Before(Part<'a, 'b>),
+    Before(LineBeforeEnd<'a, 'b>),
     End(EndLine),
 }
 
@@ -282,9 +282,9 @@ fn parse_line_after<'a, 'b>(
         ≡ parse_line_after line kind (map (λ word. word.now) words.now) }
 {
     let part = match kind {
-        LineKind::Node => Part::Node(node_in(line, words)?),
-        LineKind::Chain => Part::Chain(chain_in(line, words)?),
-        LineKind::Row => Part::Row(row_in(line, words)?),
+        LineKind::Node => LineBeforeEnd::Node(node_in(line, words)?),
+        LineKind::Chain => LineBeforeEnd::Chain(chain_in(line, words)?),
+        LineKind::Row => LineBeforeEnd::Row(row_in(line, words)?),
         LineKind::Condition(kind) => body_at(line, Entry::Condition(condition_in(kind, words)?)),
         LineKind::Instruction(kind) => {
             body_at(line, Entry::Instruction(instruction_in(kind, words)?))
@@ -300,8 +300,8 @@ fn parse_line_after<'a, 'b>(
 }
 
 /// Returns a line of a condition's step, an instruction or a join.
-fn body_at<'a, 'b>(line: u64, entry: Entry<'b>) -> Part<'a, 'b>
-    ensures { Before (part_fields result) ≡ body_at line (entry_fields entry.entry) }
+fn body_at<'a, 'b>(line: u64, entry: Entry<'b>) -> LineBeforeEnd<'a, 'b>
+    ensures { Before (fields_before_end result) ≡ body_at line (entry_fields entry.entry) }
 {
-    Part::Body(BodyLine { line, entry })
+    LineBeforeEnd::Body(BodyLine { line, entry })
 }

@@ -6,16 +6,16 @@ ghost use Rattle.bw_model.specs.Fault.{MatchesUnlessOom, is_memory};
 ghost use Rattle.bw_text.specs.Lines.{lines_in, end_in, line_of};
 ghost use Rattle.bw_cert_text.specs.CertificateFields.{CertificateFields, certificate_fields};
 ghost use Rattle.bw_cert_text.specs.CertificateText.{certificate_of, certificate_from};
-ghost use Rattle.bw_cert_text.specs.CertificateText.{parse_line_on, section_of, with_part};
+ghost use Rattle.bw_cert_text.specs.CertificateText.{parse_line_on, section_of, with_line};
 ghost use Rattle.bw_cert_text.specs.CertificateText.{end_alone, last_line};
 ghost use Rattle.bw_cert_text.specs.CertificateText.{IsCertificateText, IsCertificateFault};
 ghost use Rattle.bw_cert_text.specs.Parts.{append_fields};
 ghost use Rattle.bw_cert_text.specs.Reprint.{numbers_fit};
-ghost use Rattle.bw_cert_text.specs.ParsedFields.{part_fields, parsed_fields};
+ghost use Rattle.bw_cert_text.specs.ParsedFields.{fields_before_end, parsed_fields};
 
 use crate::body::Body;
 use crate::certificate::Certificate;
-use crate::line::{ParsedLine, Part, parse_line_in};
+use crate::line::{LineBeforeEnd, ParsedLine, parse_line_in};
 use crate::lines::{ChainLine, EdgeProducts, EndLine, NodeLine, ProductLine};
 use bw_model::{Fault, code};
 use bw_text::{Line, Lines};
@@ -71,15 +71,15 @@ pub(crate) struct Parts<'a> {
 
 impl<'a> Parts<'a> {
     /// Adds a line to those of its section.
-    fn push(&mut self, part: Part<'a, '_>) -> Result<(), AllocError>
+    fn push(&mut self, part: LineBeforeEnd<'a, '_>) -> Result<(), AllocError>
         ensures { OnOk result ((rest : CertificateFields) → append_fields self.new rest
-            ≡ append_fields self.old (with_part (part_fields part.entry) rest)) }
+            ≡ append_fields self.old (with_line (fields_before_end part.entry) rest)) }
     {
         match part {
-            Part::Node(node) => self.nodes.push(node)?,
-            Part::Chain(chain) => self.chains.push(chain)?,
-            Part::Row(row) => self.products.push(row)?,
-            Part::Body(body) => self.body.push(&body)?,
+            LineBeforeEnd::Node(node) => self.nodes.push(node)?,
+            LineBeforeEnd::Chain(chain) => self.chains.push(chain)?,
+            LineBeforeEnd::Row(row) => self.products.push(row)?,
+            LineBeforeEnd::Body(body) => self.body.push(&body)?,
         }
         Ok(())
     }
@@ -87,14 +87,14 @@ impl<'a> Parts<'a> {
 
 /// Returns the section of a line: 0 the nodes, 1 the chains, 2 the product rows, 3 the lines after
 /// them.
-fn section_of(part: &Part<'_, '_>) -> u8
-    ensures { result ≡ section_of (part_fields part.now) }
+fn section_of(part: &LineBeforeEnd<'_, '_>) -> u8
+    ensures { result ≡ section_of (fields_before_end part.now) }
 {
     match part {
-        Part::Node(_) => 0,
-        Part::Chain(_) => 1,
-        Part::Row(_) => 2,
-        Part::Body(_) => 3,
+        LineBeforeEnd::Node(_) => 0,
+        LineBeforeEnd::Chain(_) => 1,
+        LineBeforeEnd::Row(_) => 2,
+        LineBeforeEnd::Body(_) => 3,
     }
 }
 

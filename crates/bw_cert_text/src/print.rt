@@ -15,7 +15,7 @@ ghost use Rattle.bw_cert_text.specs.CertificateFields.{entry_fields, body_fields
 ghost use Rattle.bw_cert_text.specs.PrintText.{token_text, token_words, token_line, lines_text};
 ghost use Rattle.bw_cert_text.specs.PrintText.{body_tokens, schema_spelling, respelled_chain};
 ghost use Rattle.bw_cert_text.specs.PrintText.{respell, print_text};
-ghost use Rattle.bw_text.specs.Printing.{piece_text, spaced_words};
+ghost use Rattle.bw_text.specs.Printing.{printed_text, spaced_words};
 ghost use Rattle.bw_cert_text.specs.Token.{Token, Key, Number, Perhaps, one_key, two_key};
 ghost use Rattle.bw_cert_text.specs.Token.{node_tokens, chain_tokens, row_tokens, condition_tokens};
 ghost use Rattle.bw_cert_text.specs.Token.{instruction_tokens, edge_tokens, keep_tokens};
@@ -29,7 +29,7 @@ use crate::lines::{
 };
 use bw_diagram::{ChainColumns, ChainKind, Reason};
 use bw_model::{Fault, Schema};
-use bw_text::Piece::{self, Word};
+use bw_text::PrintedWord::{self, Word};
 use bw_text::{push_line, push_spaced};
 use std::alloc::{AllocError, Global};
 
@@ -54,8 +54,8 @@ impl Certificate<'_> {
         put_lines(alloc, schema, self.chain_lines(), &mut text)?;
         put_lines(alloc, schema, self.product_lines(), &mut text)?;
         put_body(alloc, self.body(), &mut text)?;
-        let pieces = [Word(b"END"), number(self.end().row)];
-        push_line(alloc, &pieces, &mut text)?;
+        let words = [Word(b"END"), number(self.end().row)];
+        push_line(alloc, &words, &mut text)?;
         Ok(text)
     }
 
@@ -173,8 +173,8 @@ impl SectionLine for ProductLine {
             Reason::Shortcut => push_line(alloc, &[row, n, op, a, b, c, Word(b"S")], text),
             Reason::Cofactors { v, i, j } => {
                 let (v, i, j) = (number(v), number(i), number(j));
-                let pieces = [row, n, op, a, b, c, Word(b"V"), v, i, j];
-                push_line(alloc, &pieces, text)
+                let words = [row, n, op, a, b, c, Word(b"V"), v, i, j];
+                push_line(alloc, &words, text)
             }
         }
     }
@@ -206,8 +206,8 @@ fn put_chain<'a>(
             let (form, column) = (Word(one_key(kind)), Word(name_of(schema, column)));
             let (start, len, bound) = (number(start), number(len), number(bound));
             let (node, prev) = (number(node), perhaps(prev));
-            let pieces = [key, n, form, column, start, len, bound, node, prev];
-            push_line(alloc, &pieces, text)
+            let words = [key, n, form, column, start, len, bound, node, prev];
+            push_line(alloc, &words, text)
         }
         ChainColumns::Two {
             kind,
@@ -220,8 +220,8 @@ fn put_chain<'a>(
             let form = Word(two_key(kind));
             let (left, right) = (name_of(schema, left), name_of(schema, right));
             let (len, node, prev) = (number(len), number(node), perhaps(prev));
-            let pieces = [key, n, form, Word(left), Word(right), len, node, prev];
-            push_line(alloc, &pieces, text)
+            let words = [key, n, form, Word(left), Word(right), len, node, prev];
+            push_line(alloc, &words, text)
         }
     }
 }
@@ -301,8 +301,8 @@ fn put_condition(alloc: Global, entry: ConditionEntry, text: &mut Vec<u8>) -> Re
             no,
         } => {
             let (chain, value) = (perhaps(chain), perhaps(value));
-            let pieces = [Word(b"CMP"), chain, value, number(yes), number(no)];
-            push_line(alloc, &pieces, text)
+            let words = [Word(b"CMP"), chain, value, number(yes), number(no)];
+            push_line(alloc, &words, text)
         }
         ConditionEntry::CompareColumns {
             chain,
@@ -314,8 +314,8 @@ fn put_condition(alloc: Global, entry: ConditionEntry, text: &mut Vec<u8>) -> Re
         } => {
             let (chain, left, right) = (perhaps(chain), perhaps(left), perhaps(right));
             let (both, yes, no) = (number(both), number(yes), number(no));
-            let pieces = [Word(b"CMP2"), chain, left, right, both, yes, no];
-            push_line(alloc, &pieces, text)
+            let words = [Word(b"CMP2"), chain, left, right, both, yes, no];
+            push_line(alloc, &words, text)
         }
         ConditionEntry::Fixed => push_line(alloc, &[Word(b"FIXED")], text),
         ConditionEntry::NullTest(i) => push_line(alloc, &[Word(b"NULLTEST"), number(i)], text),
@@ -355,9 +355,9 @@ fn put_keep(alloc: Global, keep: &Keep<'_>, text: &mut Vec<u8>) -> Result<(), Al
     ensures fit { OnOk result (IsTrue (are_small (keep_tokens (keep_fields keep.now)))) }
 {
     let (node, through) = (number(keep.node), number(keep.through));
-    let pieces = [Piece::Register(keep.register), node, through];
+    let words = [PrintedWord::Register(keep.register), node, through];
     text.extend_from_slice(b"KEEP")?;
-    push_spaced(alloc, &pieces, text)?;
+    push_spaced(alloc, &words, text)?;
     put_edges(alloc, keep.edges.as_slice(), text)?;
     text.push(b'\n')?;
     Ok(())
@@ -370,27 +370,27 @@ fn put_edges(alloc: Global, edges: &[EdgeProducts], text: &mut Vec<u8>) -> Resul
     ensures fit { OnOk result (IsTrue (are_small (edge_tokens edges.now))) }
 {
     for edge in edges {
-        let pieces = [number(edge.differs), number(edge.within)];
-        push_spaced(alloc, &pieces, text)?;
+        let words = [number(edge.differs), number(edge.within)];
+        push_spaced(alloc, &words, text)?;
     }
     Ok(())
 }
 
-/// Returns a number as a piece of a line.
-fn number(number: u64) -> Piece<'static>
-    ensures text { piece_text result ≡ token_text (Number number) }
+/// Returns a number as a word of a line.
+fn number(number: u64) -> PrintedWord<'static>
+    ensures text { printed_text result ≡ token_text (Number number) }
     ensures fit { IsTrue (is_small (Number number)) }
 {
-    Piece::Number(number)
+    PrintedWord::Number(number)
 }
 
-/// Returns a number, or `-` for none, as a piece of a line.
-fn perhaps(number: Option<u64>) -> Piece<'static>
-    ensures text { piece_text result ≡ token_text (Perhaps number) }
+/// Returns a number, or `-` for none, as a word of a line.
+fn perhaps(number: Option<u64>) -> PrintedWord<'static>
+    ensures text { printed_text result ≡ token_text (Perhaps number) }
     ensures fit { IsTrue (is_small (Perhaps number)) }
 {
     match number {
-        Some(number) => Piece::Number(number),
+        Some(number) => PrintedWord::Number(number),
         None => Word(b"-"),
     }
 }

@@ -93,7 +93,7 @@ rows_from-end rules number records e = rw e refl
 
 pub ruleset rows_of_records = (rows_from-next, rows_from-fault, rows_from-end, row_admitted)
 
--- A taker was led through the rows of the records that were read of the first ones.
+-- A consumer was led through the rows of the records that were read of the first ones.
 unfoldable pub LedSoFar : {K : Type 0} → (K → List (List Value) → K → Type 0) → K → K → List FieldRule → List (List (List ℕ)) → ℕ → List (List (List ℕ)) → Type 0
 LedSoFar led start now rules first number records = (before : List (List Value)) × led start before now × Passed (rows_from rules) first before number records
 

@@ -45,16 +45,16 @@ pub fn read_rows<K: RowConsumer>(
     alloc: Global,
     schema: &Schema,
     text: &[u8],
-    taker: &mut K,
+    consumer: &mut K,
 ) -> Result<(), Fault>
     requires takes { (row : List Value) → IsTrue (admits_values schema.now.columns.items row)
-        → IsTrue (K.takes taker.old row) }
-    requires fresh { K.rows taker.old ≡ 0 }
-    requires starts { K.led taker.old [] taker.old }
-    ensures handed { DeliversRows K.led (rows_of schema.now.columns.items text.now) taker.old
-        taker.new result }
+        → IsTrue (K.takes consumer.old row) }
+    requires fresh { K.rows consumer.old ≡ 0 }
+    requires starts { K.led consumer.old [] consumer.old }
+    ensures handed { DeliversRows K.led (rows_of schema.now.columns.items text.now) consumer.old
+        consumer.new result }
     ensures fault { IfErr result IsRowsFault }
-    ensures place { IfErr result (λ fault. IsTrue (stands_after (K.rows taker.new) fault)) }
+    ensures place { IfErr result (λ fault. IsTrue (stands_after (K.rows consumer.new) fault)) }
     // An error of the reader's own is at the heading, or at the record after those that have rows.
     ensures reader { IfErr result (λ fault. is_reader_fault fault ≡ true
         → StopsUnder schema.now.columns.items (records_of text.now) fault) }
@@ -66,7 +66,7 @@ pub fn read_rows<K: RowConsumer>(
     let mut row = Row {
         values: Vec::with_capacity(alloc, schema.columns.len())?,
     };
-    hand_rows(&rules, &mut rest, &mut row, taker)
+    hand_rows(&rules, &mut rest, &mut row, consumer)
 }
 
 /// Delivers the rows of the unread records, the first of which has number 1, under the rules to
@@ -76,23 +76,23 @@ fn hand_rows<K: RowConsumer>(
     rules: &[FieldRule],
     rest: &mut Rest<'_>,
     row: &mut Row,
-    taker: &mut K,
+    consumer: &mut K,
 ) -> Result<(), Fault>
     requires readable { IsReadable rest.old }
     requires takes { (row : List Value) → IsTrue (allow_values rules.now row)
-        → IsTrue (K.takes taker.old row) }
-    requires fresh { K.rows taker.old ≡ 0 }
-    requires starts { K.led taker.old [] taker.old }
-    ensures handed { DeliversRows K.led (rows_from rules.now 1 (to_come rest.old)) taker.old
-        taker.new result }
+        → IsTrue (K.takes consumer.old row) }
+    requires fresh { K.rows consumer.old ≡ 0 }
+    requires starts { K.led consumer.old [] consumer.old }
+    ensures handed { DeliversRows K.led (rows_from rules.now 1 (to_come rest.old)) consumer.old
+        consumer.new result }
     ensures fault { IfErr result IsRowsFault }
-    ensures place { IfErr result (λ fault. IsTrue (located_at (K.rows taker.new + 1) fault)) }
+    ensures place { IfErr result (λ fault. IsTrue (located_at (K.rows consumer.new + 1) fault)) }
     ensures reader { IfErr result (λ fault. is_reader_fault fault ≡ true
         → StopsAfter (rows_from rules.now) (to_come rest.old) fault) }
 {
     let mut number = 1;
     'rows: while rest.next_row(rules, number, row)? {
-        taker.take(row)?;
+        consumer.take(row)?;
         number += 1;
     }
     Ok(())

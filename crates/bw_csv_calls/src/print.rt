@@ -7,7 +7,7 @@ ghost use Rattle.bw_csv_calls.specs.PrintedSchema.{schema_text, table_line};
 ghost use Rattle.bw_text.specs.Printing.{line_text};
 
 use bw_model::{Column, Fault, Name, Schema};
-use bw_text::{Piece, push_line};
+use bw_text::{PrintedWord, push_line};
 use std::alloc::{AllocError, Global};
 
 /// Returns the text of a schema: `TABLE` and its name, then for each column a line of `COLUMN`, its
@@ -35,8 +35,11 @@ pub fn print_schema(alloc: Global, schema: &Schema) -> Result<Vec<u8>, Fault>
 fn put_table(alloc: Global, name: &Name, text: &mut Vec<u8>) -> Result<(), AllocError>
     ensures { OnOk result (text.new.items ≡ text.old.items ++ line_text (table_line name.now)) }
 {
-    let pieces = [Piece::Word(b"TABLE"), Piece::Word(name.as_bytes())];
-    push_line(alloc, &pieces, text)
+    let words = [
+        PrintedWord::Word(b"TABLE"),
+        PrintedWord::Word(name.as_bytes()),
+    ];
+    push_line(alloc, &words, text)
 }
 
 /// Appends the line of a column.
@@ -44,13 +47,13 @@ fn put_column(alloc: Global, column: &Column, text: &mut Vec<u8>) -> Result<(), 
     ensures { OnOk result (text.new.items ≡ text.old.items
         ++ line_text (column_line (column_shape column.now))) }
 {
-    use Piece::{Signed, Word};
+    use PrintedWord::{Signed, Word};
     let (name, lo, hi) = (column.name.as_bytes(), Signed(column.lo), Signed(column.hi));
     if column.nullable {
-        let pieces = [Word(b"COLUMN"), Word(name), lo, hi];
-        push_line(alloc, &pieces, text)
+        let words = [Word(b"COLUMN"), Word(name), lo, hi];
+        push_line(alloc, &words, text)
     } else {
-        let pieces = [
+        let words = [
             Word(b"COLUMN"),
             Word(name),
             lo,
@@ -58,6 +61,6 @@ fn put_column(alloc: Global, column: &Column, text: &mut Vec<u8>) -> Result<(), 
             Word(b"NOT"),
             Word(b"NULL"),
         ];
-        push_line(alloc, &pieces, text)
+        push_line(alloc, &words, text)
     }
 }

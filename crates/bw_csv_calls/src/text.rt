@@ -3,12 +3,12 @@ ghost use Rattle.std.specs.Prelude.{◌≡◌, ◌++◌, IfOk, IsOkUnless, OnOk}
 ghost use Rattle.bw_model.specs.Fault.{no_memory};
 ghost use Rattle.bw_model.specs.SchemaText.{IsSchemaText, schema_shape};
 ghost use Rattle.bw_csv_calls.specs.Info.{comment, info_text, layout_word};
-ghost use Rattle.bw_text.specs.Printing.{piece_text};
+ghost use Rattle.bw_text.specs.Printing.{printed_text};
 
 use crate::print::print_schema;
 use bw_file::Layout;
 use bw_model::{Fault, Schema};
-use bw_text::{Piece, push_line};
+use bw_text::{PrintedWord, push_line};
 use std::alloc::{AllocError, Global};
 
 /// The numbers of a header, and the number of bytes of its file.
@@ -28,7 +28,7 @@ pub(crate) fn info_text(alloc: Global, schema: &Schema, facts: Facts) -> Result<
         (λ text. IsSchemaText text.items (schema_shape schema.now)) }
     ensures only_oom { IsOkUnless result no_memory }
 {
-    use Piece::{Number, Word};
+    use PrintedWord::{Number, Word};
     let rows = u64::from(facts.rows);
     let segments = (rows + 511) / 512;
     let version = u64::from(facts.version);
@@ -54,11 +54,15 @@ fn layout_word(layout: Layout) -> &'static [u8]
 fn put_fact<'a>(
     alloc: Global,
     word: &'a [u8],
-    value: Piece<'a>,
+    value: PrintedWord<'a>,
     text: &mut Vec<u8>,
 ) -> Result<(), AllocError>
     ensures { OnOk result (text.new.items ≡ text.old.items
-        ++ comment word.now (piece_text value.entry)) }
+        ++ comment word.now (printed_text value.entry)) }
 {
-    push_line(alloc, &[Piece::Word(b"#"), Piece::Word(word), value], text)
+    push_line(
+        alloc,
+        &[PrintedWord::Word(b"#"), PrintedWord::Word(word), value],
+        text,
+    )
 }

@@ -117,16 +117,16 @@ impl CodedTable<'_> {
 
     /// Delivers the rows to a consumer, in order. It must accept each of them. Fails only if memory
     /// is refused.
-    pub fn deliver<K: RowConsumer>(&self, alloc: Global, taker: &mut K) -> Result<(), Fault>
+    pub fn deliver<K: RowConsumer>(&self, alloc: Global, consumer: &mut K) -> Result<(), Fault>
         requires coded { IsCodedTable self.now }
         requires takes { (row : ℕ) → row < rows_in self.now
-            → IsTrue (K.takes taker.old (row_at (encodings_in self.now) row)) }
-        requires fresh { K.rows taker.old ≡ 0 }
-        requires starts { K.led taker.old [] taker.old }
-        ensures led { OnOk result (K.led taker.old
-            (rows_upto (encodings_in self.now) (rows_in self.now)) taker.new) }
+            → IsTrue (K.takes consumer.old (row_at (encodings_in self.now) row)) }
+        requires fresh { K.rows consumer.old ≡ 0 }
+        requires starts { K.led consumer.old [] consumer.old }
+        ensures led { OnOk result (K.led consumer.old
+            (rows_upto (encodings_in self.now) (rows_in self.now)) consumer.new) }
         ensures only_oom { IsOkUnless result no_memory }
     {
-        deliver_rows(alloc, &self.columns, self.rows, taker)
+        deliver_rows(alloc, &self.columns, self.rows, consumer)
     }
 }

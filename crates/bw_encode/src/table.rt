@@ -66,17 +66,17 @@ pub(crate) fn deliver_rows<K: RowConsumer>(
     alloc: Global,
     columns: &[Coded<'_>],
     count: usize,
-    taker: &mut K,
+    consumer: &mut K,
 ) -> Result<(), Fault>
     requires coded { All IsCoded columns.now }
     requires tall { All (λ column. count ≤ length (fields_in column)) columns.now }
     requires within { count ≤ most_rows }
     requires takes { (row : ℕ) → row < count
-        → IsTrue (K.takes taker.old (row_at (map encoding_of columns.now) row)) }
-    requires fresh { K.rows taker.old ≡ 0 }
-    requires starts { K.led taker.old [] taker.old }
-    ensures led { OnOk result (K.led taker.old (rows_upto (map encoding_of columns.now) count)
-        taker.new) }
+        → IsTrue (K.takes consumer.old (row_at (map encoding_of columns.now) row)) }
+    requires fresh { K.rows consumer.old ≡ 0 }
+    requires starts { K.led consumer.old [] consumer.old }
+    ensures led { OnOk result (K.led consumer.old (rows_upto (map encoding_of columns.now) count)
+        consumer.new) }
     ensures only_oom { IsOkUnless result no_memory }
 {
     let mut row = Row {
@@ -84,7 +84,7 @@ pub(crate) fn deliver_rows<K: RowConsumer>(
     };
     for number in 0..count {
         fill_row(columns, number, &mut row)?;
-        taker.take(&row)?;
+        consumer.take(&row)?;
     }
     Ok(())
 }

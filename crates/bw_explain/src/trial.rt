@@ -15,16 +15,16 @@ const INSTRUCTIONS: usize = 1 << 17;
 
 /// A set of rows, and the place from which on skips are to be taken by a part of it.
 #[derive(Clone, Copy)]
-struct Part {
+struct RowSet {
     rows: Plane,
     from: usize,
 }
 
-impl Part {
+impl RowSet {
     /// Returns a set of rows, of which no parts are to be found.
     fn whole(rows: Plane) -> Self {
         let from = usize::MAX;
-        Part { rows, from }
+        RowSet { rows, from }
     }
 }
 
@@ -63,7 +63,7 @@ impl Trial<'_> {
     /// Returns rows on which the program is wrong, as the function of this name does.
     fn wrong_rows(self, alloc: Global) -> Result<Vec<usize>, AllocError> {
         let (mut parts, mut beside) = (Vec::new(alloc), mask(0));
-        parts.push(Part {
+        parts.push(RowSet {
             rows: self.all_rows(),
             from: 0,
         })?;
@@ -75,7 +75,7 @@ impl Trial<'_> {
             let part = if parts.len() < runs {
                 part
             } else {
-                Part::whole(part.rows)
+                RowSet::whole(part.rows)
             };
             let wrong = self.run(part, &mut parts, &mut beside)?;
             if !is_zero(&wrong) {
@@ -112,7 +112,7 @@ impl Trial<'_> {
             }
         }
         let mut beside = set_of(first);
-        self.run(Part::whole(*rows), &mut Vec::new(alloc), &mut beside)?;
+        self.run(RowSet::whole(*rows), &mut Vec::new(alloc), &mut beside)?;
         let mut places = Vec::from_slice(alloc, &[first])?;
         for place in 0..LANES {
             if lane(&beside, place) && place != first {
@@ -125,7 +125,7 @@ impl Trial<'_> {
     /// Returns whether the program is wrong on a row beside others.
     fn is_wrong(self, alloc: Global, place: usize, beside: &Plane) -> Result<bool, AllocError> {
         let row = set_of(place);
-        let part = Part::whole(or(&row, beside));
+        let part = RowSet::whole(or(&row, beside));
         let wrong = self.run(part, &mut Vec::new(alloc), &mut mask(0))?;
         Ok(!is_zero(&and(&wrong, &row)))
     }
@@ -135,8 +135,8 @@ impl Trial<'_> {
     /// on which it isn't, if that has none.
     fn run(
         self,
-        part: Part,
-        parts: &mut Vec<Part>,
+        part: RowSet,
+        parts: &mut Vec<RowSet>,
         beside: &mut Plane,
     ) -> Result<Plane, AllocError> {
         let mut registers = registers();
@@ -162,7 +162,7 @@ impl Trial<'_> {
             let rows = xor(&ones, &part.rows);
             if number >= part.from && !is_zero(&rows) {
                 let from = number + 1;
-                parts.push(Part { rows, from })?;
+                parts.push(RowSet { rows, from })?;
             }
         }
         let result = plane_in(&registers, self.program.result());

@@ -7,7 +7,7 @@ ghost use Rattle.bw_model.specs.Column.{names_of};
 ghost use Rattle.bw_model.specs.Fault.{no_memory};
 ghost use Rattle.bw_model.specs.Name.{is_name, are_apart};
 ghost use Rattle.bw_text.specs.Opcode.{opcode_spelling};
-ghost use Rattle.bw_text.specs.Printing.{line_text, piece_text};
+ghost use Rattle.bw_text.specs.Printing.{line_text, printed_text};
 ghost use Rattle.bw_text.specs.Register.{register_text};
 ghost use Rattle.bw_program.specs.PrintText.{column_text, instr_words, lines_text, print_text};
 ghost use Rattle.bw_program.specs.PrintText.{result_words};
@@ -17,7 +17,7 @@ ghost use Rattle.bw_program.specs.ProgramText.{IsProgramText};
 use crate::instr::{ColumnIndex, Instr, Register, SliceIndex};
 use crate::program::Program;
 use bw_model::{Fault, Schema};
-use bw_text::{Opcode, Piece, push_line};
+use bw_text::{Opcode, PrintedWord, push_line};
 use std::alloc::{AllocError, Global};
 
 impl Program {
@@ -76,12 +76,12 @@ fn put_instr(
     ensures { OnOk result (text.new.items
         ≡ text.old.items ++ line_text (instr_words schema.now.columns.items instr)) }
 {
-    use Piece::{Number, Register, Word};
+    use PrintedWord::{Number, Register, Word};
     match instr {
         Instr::Load(r, col, bit) => {
             let (col, bit) = (Word(name_of(schema, col)), Number(bit as u64));
-            let pieces = [word(Opcode::Load), Register(r), col, bit];
-            push_line(alloc, &pieces, text)
+            let words = [word(Opcode::Load), Register(r), col, bit];
+            push_line(alloc, &words, text)
         }
         Instr::Nulls(r, col) => {
             let col = Word(name_of(schema, col));
@@ -95,8 +95,8 @@ fn put_instr(
         Instr::Or(r, x, y) => put_three(alloc, Opcode::Or, (r, x, y), text),
         Instr::Xor(r, x, y) => put_three(alloc, Opcode::Xor, (r, x, y), text),
         Instr::Not(r, x) => {
-            let pieces = [word(Opcode::Not), Register(r), Register(x)];
-            push_line(alloc, &pieces, text)
+            let words = [word(Opcode::Not), Register(r), Register(x)];
+            push_line(alloc, &words, text)
         }
         Instr::ByteLt(r, col, slice, k) => {
             put_byte(alloc, schema, Opcode::ByteLt, (r, col, slice, k), text)
@@ -121,10 +121,10 @@ fn put_three(
     ensures { OnOk result (text.new.items ≡ text.old.items ++ line_text (opcode_spelling opcode
         ∷ register_text registers.0 ∷ register_text registers.1 ∷ register_text registers.2 ∷ [])) }
 {
-    use Piece::Register;
+    use PrintedWord::Register;
     let (r, x, y) = registers;
-    let pieces = [word(opcode), Register(r), Register(x), Register(y)];
-    push_line(alloc, &pieces, text)
+    let words = [word(opcode), Register(r), Register(x), Register(y)];
+    push_line(alloc, &words, text)
 }
 
 /// Appends the line of an instruction with a register, a column, a slice of its codes and a byte.
@@ -139,27 +139,27 @@ fn put_byte(
         ∷ register_text operands.0 ∷ column_text schema.now.columns.items operands.1
         ∷ decimal operands.2 ∷ decimal operands.3 ∷ [])) }
 {
-    use Piece::{Number, Register, Word};
+    use PrintedWord::{Number, Register, Word};
     let (r, col, slice, k) = operands;
     let col = Word(name_of(schema, col));
     let (slice, k) = (Number(slice as u64), Number(k as u64));
-    let pieces = [word(opcode), Register(r), col, slice, k];
-    push_line(alloc, &pieces, text)
+    let words = [word(opcode), Register(r), col, slice, k];
+    push_line(alloc, &words, text)
 }
 
 /// Appends the line of the result register.
 fn put_result(alloc: Global, register: Register, text: &mut Vec<u8>) -> Result<(), AllocError>
     ensures { OnOk result (text.new.items ≡ text.old.items ++ line_text (result_words register)) }
 {
-    let pieces = [word(Opcode::Result), Piece::Register(register)];
-    push_line(alloc, &pieces, text)
+    let words = [word(Opcode::Result), PrintedWord::Register(register)];
+    push_line(alloc, &words, text)
 }
 
-/// Returns an opcode as the first piece of a line.
-fn word(opcode: Opcode) -> Piece<'static>
-    ensures { piece_text result ≡ opcode_spelling opcode }
+/// Returns an opcode as the first word of a line.
+fn word(opcode: Opcode) -> PrintedWord<'static>
+    ensures { printed_text result ≡ opcode_spelling opcode }
 {
-    Piece::Word(opcode.spelling())
+    PrintedWord::Word(opcode.spelling())
 }
 
 /// Returns the name of the column of a number, or nothing if there is none.

@@ -94,7 +94,7 @@ impl Facts<'_> {
             };
             last = Some(self.link(link, last)?);
         }
-        last.ok_or(self.chains.passed())
+        last.ok_or(self.chains.limit_fault())
     }
 
     /// Returns a chain, and adds it if it is missing. `lower` is the chain of one bit less.

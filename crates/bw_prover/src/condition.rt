@@ -81,7 +81,7 @@ impl Prover<'_> {
         let left = i128::from(products.limit) - i128::from(before);
         let each = taken / (joined as i128).max(1);
         if products.count >= self.forecast_from && each > left / (parts as i128).max(1) {
-            return Err(products.passed());
+            return Err(products.limit_fault());
         }
         Ok(())
     }

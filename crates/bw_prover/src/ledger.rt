@@ -58,7 +58,7 @@ impl<T: Copy> Ledger<T> {
     {
         let number = self.count;
         if number >= self.limit {
-            return Err(self.passed());
+            return Err(self.limit_fault());
         }
         if number as usize >= self.slots.len() / 2 {
             self.spread()?;
@@ -76,14 +76,14 @@ impl<T: Copy> Ledger<T> {
         ensures count { self.new.count ≡ self.old.count }
     {
         if self.count > limit {
-            return Err(self.passed());
+            return Err(self.limit_fault());
         }
         self.limit = limit;
         Ok(())
     }
 
     /// Returns that there may be no more entries.
-    pub(crate) fn passed(&self) -> Unproved {
+    pub(crate) fn limit_fault(&self) -> Unproved {
         Unproved::Limit {
             counted: self.counted,
             most: self.limit,

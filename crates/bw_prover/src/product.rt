@@ -51,10 +51,10 @@ impl Facts<'_> {
         for _ in 0..4 * u64::from(MAX_PRODUCTS) {
             match self.waiting.pop() {
                 Some(last) => made = self.go_on(last, made)?,
-                None => return made.ok_or(self.products.passed()),
+                None => return made.ok_or(self.products.limit_fault()),
             }
         }
-        Err(self.products.passed())
+        Err(self.products.limit_fault())
     }
 
     /// Returns the row of a question if it is known or a shortcut; else the question waits.

@@ -20,13 +20,13 @@ impl Facts<'_> {
         }
         match self.row_of(node)? {
             Some(row) => Ok(Unproved::Differs { row }),
-            None => self.unadmitted(node),
+            None => self.only_unadmitted(node),
         }
     }
 
     /// Returns that a program is wrong on bits alone that no row has, given a node that is 1 on no
     /// row, and which isn't 0: the first column that has such bits where it is 1.
-    fn unadmitted(&self, node: u64) -> Result<Unproved, Unproved> {
+    fn only_unadmitted(&self, node: u64) -> Result<Unproved, Unproved> {
         let codes = codes_of_bits(self.alloc, self.schema, &self.path_to_one(node)?)?;
         for (number, (column, stored)) in self.schema.columns.iter().zip(&codes).enumerate() {
             let (is_null, code) = *stored;

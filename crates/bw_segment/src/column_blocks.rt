@@ -56,7 +56,7 @@ impl ColumnBlocks {
     }
 
     /// Returns a column of which every segment has this block.
-    pub(crate) fn repeated(alloc: Global, block: Vec<u8>) -> Self
+    pub(crate) fn repeat(alloc: Global, block: Vec<u8>) -> Self
         ensures size { result.size ≡ length block.items }
         ensures stride { result.stride ≡ 0 }
         ensures bytes { result.bytes.items ≡ block.items }

@@ -78,7 +78,7 @@ fn blank_blocks<L: CodeLayout>(
     L::keeps_codes();
     let mut block = Vec::with_capacity(alloc, PackedSegment::<L>::block_size(placement, col))?;
     push_block::<L>(&mut block, placement, col, &ColumnCodes::empty())?;
-    Ok(ColumnBlocks::repeated(alloc, block))
+    Ok(ColumnBlocks::repeat(alloc, block))
 }
 
 /// Adds the blocks of a segment, each to its column, after those of earlier segments. Errors: 801

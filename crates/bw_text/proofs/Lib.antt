@@ -1,7 +1,7 @@
 pub mod DecimalLemmas
 pub mod LineLemmas
 pub mod Numbers
-pub mod PieceLemmas
+pub mod PrintedLemmas
 pub mod RegisterLemmas
 pub mod SpacedWords
 pub mod WordLemmas

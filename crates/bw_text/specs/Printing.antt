@@ -2,17 +2,17 @@
 use Rattle.std.specs.Prelude.{ℕ, Bool, List, [], ◌∷◌, ◌++◌, ◌&&◌, not, nat_lt}
 use Rattle.std.specs.Fmt.{decimal, signed_decimal}
 use Rattle.std.specs.List.{list_all}
-use Rattle.bw_text.specs.declared.piece.Piece.{Piece}
-use Rattle.bw_text.specs.declared.piece.Piece.TheVariants.{Word, Number, Signed, Register}
+use Rattle.bw_text.specs.declared.printed_word.PrintedWord.{PrintedWord}
+use Rattle.bw_text.specs.declared.printed_word.PrintedWord.TheVariants.{Word, Number, Signed, Register}
 use Rattle.bw_text.specs.Lines.{is_empty}
 use Rattle.bw_text.specs.Register.{register_text}
 
--- the word that a piece of a line is written as: a number in decimal without leading zeros
-abbrev pub piece_text : Piece → List ℕ
-piece_text (Word word) = word.now
-piece_text (Number number) = decimal number
-piece_text (Signed number) = signed_decimal number
-piece_text (Register register) = register_text register
+-- what a word of a line is written as: a number in decimal without leading zeros
+abbrev pub printed_text : PrintedWord → List ℕ
+printed_text (Word word) = word.now
+printed_text (Number number) = decimal number
+printed_text (Signed number) = signed_decimal number
+printed_text (Register register) = register_text register
 
 -- more words of a line, each after a blank, which is byte 32
 unfoldable pub spaced_words : List (List ℕ) → List ℕ

@@ -20,7 +20,7 @@ mod line_kind;
 mod lines;
 mod number;
 mod opcode;
-mod piece;
+mod printed_word;
 mod register;
 mod text;
 
@@ -31,6 +31,6 @@ pub use line_kind::{ConditionKind, InstructionKind, LineKind};
 pub use lines::{Line, Lines, only_word};
 pub use number::{natural_number, number_in, whole_number, with_sign};
 pub use opcode::Opcode;
-pub use piece::{Piece, push_line, push_spaced};
+pub use printed_word::{PrintedWord, push_line, push_spaced};
 pub use register::{REGISTERS, register_of};
 pub use text::{begins_word, goes_on_in_word, is_same_text, is_word};

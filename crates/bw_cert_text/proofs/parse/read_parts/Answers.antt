@@ -2,7 +2,7 @@
 use Rattle.std.proofs.Common.{◌∙◌, ℕ, ap, sym, Err}
 use Rattle.bw_cert_text.specs.CertificateText.{form_fault}
 use Rattle.bw_cert_text.specs.Parts.{append_fields}
-use Rattle.bw_cert_text.specs.ParsedFields.{part_fields}
+use Rattle.bw_cert_text.specs.ParsedFields.{fields_before_end}
 use Rattle.bw_cert_text.proofs.TextLemmas.{whole-end, whole-next, whole-before, whole-last}
 use Rattle.bw_cert_text.proofs.parse.read_parts.Goals as goal
 use Rattle.bw_model.proofs.ErrLemmas.{err_passed_on}
@@ -21,7 +21,7 @@ pub loop-pairs-preserved : goal.loop-pairs-preserved
 loop-pairs-preserved c =
     let line = rw c.in-Some.is at c.in_ok-line.ensures.line in
     record {
-      told = whole-before _ _ _ _ _ _ _ c.loop-pairs.invariant.told line (part_fields c.in-Before.part) (append_fields c.push.new.self) _
+      told = whole-before _ _ _ _ _ _ _ c.loop-pairs.invariant.told line (fields_before_end c.in-Before.part) (append_fields c.push.new.self) _
           (rw c.in-Before.is at c.in_ok-part.ensures.parsed) c.section_of-section.ensures c.in_ok-push-in-Before.ensures;
       end = c.loop-pairs.invariant.end ∙ sym c.in_ok-line.ensures.end;
     }

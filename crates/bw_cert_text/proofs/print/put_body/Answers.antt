@@ -4,7 +4,7 @@ use Rattle.std.specs.List.{list_all}
 use Rattle.bw_cert_text.specs.CertificateFields.{body_fields}
 use Rattle.bw_cert_text.specs.PrintText.{body_tokens, lines_text}
 use Rattle.bw_cert_text.specs.Reprint.{are_small}
-use Rattle.bw_text.proofs.PieceLemmas.{written, all_written}
+use Rattle.bw_text.proofs.PrintedLemmas.{written, all_written}
 use Rattle.bw_cert_text.proofs.print.put_body.Goals as goal
 
 pub loop-line-preserved : goal.loop-line-preserved

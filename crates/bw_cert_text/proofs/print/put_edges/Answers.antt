@@ -2,7 +2,7 @@
 use Rattle.std.proofs.Common.{◌∙◌, sym, arith}
 use Rattle.bw_cert_text.proofs.PrintLemmas.{edges-next, edges-end, fit-next, fit-all, is_small_edge}
 use Rattle.bw_cert_text.proofs.PrintLemmas.{edges_fit, edge-fits}
-use Rattle.bw_text.proofs.PieceLemmas.{written, all_written}
+use Rattle.bw_text.proofs.PrintedLemmas.{written, all_written}
 use Rattle.bw_cert_text.proofs.print.put_edges.Goals as goal
 
 pub loop-edge-preserved : goal.loop-edge-preserved

@@ -1,7 +1,7 @@
 -- Each line that is written goes over from what is left, and its numbers are below 2^64.
 use Rattle.std.proofs.Common.{arith}
 use Rattle.bw_cert_text.proofs.PrintLemmas.{lines-found, lines-end, fit-found}
-use Rattle.bw_text.proofs.PieceLemmas.{written, all_written}
+use Rattle.bw_text.proofs.PrintedLemmas.{written, all_written}
 use Rattle.bw_cert_text.specs.Reprint.{are_small}
 use Rattle.bw_cert_text.proofs.print.put_lines.Goals as goal
 

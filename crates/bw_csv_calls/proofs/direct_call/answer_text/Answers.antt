@@ -26,7 +26,7 @@ pub returns-clause-text : goal.returns-clause-text
 returns-clause-text c =
     let columns = c.args.schema.now.columns.items in
     let query = c.args.query.now in
-    gives_rows (λ rows. csv_text (meaning (names_of columns) query rows)) c.in_ok-answer.answer c.read_rows.new.taker (rows_of columns c.args.csv.now) c.into_text.result
+    gives_rows (λ rows. csv_text (meaning (names_of columns) query rows)) c.in_ok-answer.answer c.read_rows.new.consumer (rows_of columns c.args.csv.now) c.into_text.result
     c.in_ok-read_rows.ensures.handed
     (λ rows led. IfOk-weaker c.into_text.result _ _ (λ text whole. whole (names_of columns) query rows (led.taken (names_of columns) query [] c.in_ok-answer.ensures.covers)) c.into_text.ensures.text)
     c.into_text.ensures.only_oom

@@ -7,7 +7,7 @@ use Rattle.bw_csv_calls.specs.PrintedSchema.{column_line, columns_text, schema_t
 use Rattle.bw_text.specs.Printing.{line_text}
 use Rattle.bw_csv_calls.proofs.PrintedText.{all_written, columns_text-end, columns_text-next}
 use Rattle.bw_csv_calls.proofs.PrintedText.{no_comments, text_spells}
-use Rattle.bw_text.proofs.PieceLemmas.{written}
+use Rattle.bw_text.proofs.PrintedLemmas.{written}
 use Rattle.bw_csv_calls.proofs.print.print_schema.Goals as goal
 
 pub loop-column-preserved : goal.loop-column-preserved

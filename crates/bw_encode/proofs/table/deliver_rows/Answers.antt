@@ -9,14 +9,14 @@ pub loop-number-init : goal.loop-number-init
 loop-number-init g c = record {
   takes = refl;
   count = c.requires.fresh;
-  led = subst (λ rows. g.K.RowConsumer.led c.args.taker.now rows c.args.taker.now) (sym (rows_none (map encoding_of c.args.columns.now))) c.requires.starts;
+  led = subst (λ rows. g.K.RowConsumer.led c.args.consumer.now rows c.args.consumer.now) (sym (rows_none (map encoding_of c.args.columns.now))) c.requires.starts;
 }
 
 pub loop-number-preserved : goal.loop-number-preserved
 loop-number-preserved g c = record {
   takes = c.in_ok-take.ensures.takes ∙ c.loop-number.invariant.takes;
   count = c.in_ok-take.ensures.rows ∙ rw c.loop-number.invariant.count refl;
-  led = subst (λ rows. g.K.RowConsumer.led c.args.taker.now rows c.take.new.self)
+  led = subst (λ rows. g.K.RowConsumer.led c.args.consumer.now rows c.take.new.self)
       (rw c.in_ok-fill_row.ensures (sym (rows_step (map encoding_of c.args.columns.now) c.loop-number.number)))
-      (c.in_ok-take.ensures.led c.args.taker.now (rows_upto (map encoding_of c.args.columns.now) c.loop-number.number) c.loop-number.invariant.led);
+      (c.in_ok-take.ensures.led c.args.consumer.now (rows_upto (map encoding_of c.args.columns.now) c.loop-number.number) c.loop-number.invariant.led);
 }

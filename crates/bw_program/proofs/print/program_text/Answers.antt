@@ -1,7 +1,7 @@
 -- Each line that is written goes over from what is left.
 use Rattle.std.proofs.Common.{◌≡◌, List, ℕ, ◌∙◌, sym, ap, ◌++◌}
 use Rattle.bw_program.proofs.PrintLemmas.{lines_text-next, lines_text-end}
-use Rattle.bw_text.proofs.PieceLemmas.{written}
+use Rattle.bw_text.proofs.PrintedLemmas.{written}
 use Rattle.bw_program.proofs.print.program_text.Goals as goal
 
 pub loop-instr-preserved : goal.loop-instr-preserved

@@ -16,7 +16,7 @@ returns-clause-bytes c =
       schema = schema;
       narrow = c.in_ok-schema.ensures.schema;
       made = text (rows_upto (encodings_in c.args.table.now) (rows_in c.args.table.now)) (led.holds [] c.in_ok-encoder.ensures.holds)
-          ∙ same_in_order c.args.self.now.order _ _ (encoder_schema c.deliver.new.taker) schema _ (led.layout ∙ c.in_ok-encoder.ensures.layout)
+          ∙ same_in_order c.args.self.now.order _ _ (encoder_schema c.deliver.new.consumer) schema _ (led.layout ∙ c.in_ok-encoder.ensures.layout)
           (ap (λ (schema : Schema). schema.name) led.schema ∙ c.in_ok-encoder.ensures.name)
           (ap (λ (schema : Schema). schema.columns.items) led.schema ∙ c.in_ok-encoder.ensures.columns);
     }) c.finish_in_order.ensures.bytes

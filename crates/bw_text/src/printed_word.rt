@@ -1,62 +1,66 @@
 //! Lines of words, written.
 ghost use Rattle.std.specs.Prelude.{◌≡◌, ◌++◌, OnOk, map};
 ghost use Rattle.std.specs.Fmt.{decimal};
-ghost use Rattle.bw_text.specs.Printing.{line_text, piece_text, spaced_words};
+ghost use Rattle.bw_text.specs.Printing.{line_text, printed_text, spaced_words};
 
 use std::alloc::{AllocError, Global};
 
 /// One word of a line to write: a text as it is, a number in decimal, or a register, as `r7`.
 #[derive(Clone, Copy)]
-pub enum Piece<'a> {
+pub enum PrintedWord<'a> {
     Word(&'a [u8]),
     Number(u64),
     Signed(i64),
     Register(u8),
 }
 
-/// Appends a line to a text: its pieces, one blank apart, and a line feed. Fails only if memory is
+/// Appends a line to a text: its words, one blank apart, and a line feed. Fails only if memory is
 /// refused; a part of the line may have been appended then.
-pub fn push_line(alloc: Global, pieces: &[Piece<'_>], text: &mut Vec<u8>) -> Result<(), AllocError>
+pub fn push_line(
+    alloc: Global,
+    words: &[PrintedWord<'_>],
+    text: &mut Vec<u8>,
+) -> Result<(), AllocError>
     ensures { OnOk result (text.new.items ≡ text.old.items
-        ++ line_text (map piece_text pieces.now)) }
+        ++ line_text (map printed_text words.now)) }
 {
-    if let Some((first, more)) = pieces.split_first() {
-        push_piece(alloc, *first, text)?;
+    if let Some((first, more)) = words.split_first() {
+        push_word(alloc, *first, text)?;
         push_spaced(alloc, more, text)?;
     }
     text.push(b'\n')?;
     Ok(())
 }
 
-/// Appends more pieces of a line, each after a blank. Fails only if memory is refused; a part of
+/// Appends more words of a line, each after a blank. Fails only if memory is refused; a part of
 /// them may have been appended then.
 pub fn push_spaced(
     alloc: Global,
-    pieces: &[Piece<'_>],
+    words: &[PrintedWord<'_>],
     text: &mut Vec<u8>,
 ) -> Result<(), AllocError>
     ensures { OnOk result
-        (text.new.items ≡ text.old.items ++ spaced_words (map piece_text pieces.now)) }
+        (text.new.items ≡ text.old.items ++ spaced_words (map printed_text words.now)) }
 {
-    for piece in pieces {
+    for word in words {
         text.push(b' ')?;
-        push_piece(alloc, *piece, text)?;
+        push_word(alloc, *word, text)?;
     }
     Ok(())
 }
 
-/// Appends a piece.
-fn push_piece(alloc: Global, piece: Piece<'_>, text: &mut Vec<u8>) -> Result<(), AllocError>
-    ensures { OnOk result (text.new.items ≡ text.old.items ++ piece_text piece.entry) }
+/// Appends a word.
+fn push_word(alloc: Global, word: PrintedWord<'_>, text: &mut Vec<u8>) -> Result<(), AllocError>
+    ensures { OnOk result (text.new.items ≡ text.old.items ++ printed_text word.entry) }
 {
-    match piece {
-        Piece::Word(word) => text.extend_from_slice(word),
-        Piece::Number(number) => push_number(alloc, number, text),
-        Piece::Signed(number) => {
+    match word {
+        PrintedWord::Word(bytes) => text.extend_from_slice(bytes),
+        PrintedWord::Number(number) => push_number(alloc, number, text),
+        PrintedWord::Signed(number) => {
             let digits = number.to_string(alloc)?;
             text.extend_from_slice(digits.as_bytes())
         }
-        Piece::Register(register) => {
+        PrintedWord::Register(register) => {
             text.push(b'r')?;
             push_number(alloc, register as u64, text)
         }
