@@ -192,7 +192,8 @@ static struct fault scan_segment(const struct question *question, uint32_t segme
 }
 
 // after an error the columns before its own are read to their ends, since theirs come first
-static void scan_by_columns(const struct question *question, uint64_t head) {
+// As a session does, it stores the columns first, if it is to keep them.
+static void scan_by_columns(const struct question *question, uint64_t head, int keeps) {
     uint32_t segments = (row_count + ROWS - 1) / ROWS, many;
     uint64_t whole = head + (uint64_t)segments * segment_size;
     struct stat now;
@@ -202,8 +203,9 @@ static void scan_by_columns(const struct question *question, uint64_t head) {
     find_streams(question, head, segments);
     size_t together = 0;
     for (int i = 0; i < streams; i++) together += stream[i].column->size;
-    many = together > BUFFERS ? 1 : (uint32_t)(BUFFERS / together);
-    unsigned char *into = buffer;
+    many = keeps ? segments : together > BUFFERS ? 1 : (uint32_t)(BUFFERS / together);
+    unsigned char *into = keeps ? malloc(many * together) : buffer;
+    if (!into) give_up("no memory");
     for (int i = 0; i < streams; into += many * stream[i++].column->size) stream[i].blocks = into;
     struct fault first_fault = {0, 0};
     int left = streams;
@@ -224,16 +226,17 @@ static void scan_by_columns(const struct question *question, uint64_t head) {
 int main(int words, char **word) {
     const struct question *question = NULL;
     char table[256];
-    for (size_t i = 0; words == 3 && i < sizeof QUESTION / sizeof *QUESTION; i++)
+    int keeps = words == 4 && !strcmp(word[3], "--keep");
+    for (size_t i = 0; words == 3 + keeps && i < sizeof QUESTION / sizeof *QUESTION; i++)
         if (!strcmp(word[1], QUESTION[i].name)) question = &QUESTION[i];
-    if (!question) give_up("usage: tuned QUESTION TABLE");
+    if (!question) give_up("usage: tuned QUESTION TABLE [--keep]");
     file = open(word[2], O_RDONLY);
     if (file < 0) give_up("the file can't be opened");
     make_spread();
     take_header(table);
     find_columns(table);
     if (by_columns) {
-        scan_by_columns(question, passed + at);
+        scan_by_columns(question, passed + at, keeps);
     } else {
         settle();
         scan(question);

@@ -9,3 +9,6 @@ pub mod StoredRows
 pub mod WholeColumnar
 pub mod WindowLemmas
 pub mod ReadLemmas
+pub mod WrittenColumnar
+pub mod CutColumnar
+pub mod UndamagedColumnar

@@ -1,10 +1,10 @@
 -- The rows of a file by columns, of which some columns were read.
-use Rattle.std.proofs.Common.{◌≡◌, ◌∙◌, ◌⊎◌, refl, sym, ap, ap₂, subst, ℕ, zero, suc, ◌+◌, ◌-◌, ◌*◌, ◌/◌, ◌^◌, ◌-ℤ◌, pos}
+use Rattle.std.proofs.Common.{◌≡◌, ◌∙◌, refl, sym, ap, ap₂, subst, ℕ, zero, suc, ◌+◌, ◌-◌, ◌*◌, ◌/◌}
 use Rattle.std.proofs.Common.{◌<◌, ◌≤◌, Bool, true, false, cond, All, List, [], ◌∷◌, ◌++◌, flat_map, map, get_or, length, min}
-use Rattle.std.proofs.Common.{take, drop, None, Some, Option, Ok, append_assoc, length-append, length-drop, length-take, add-one, inl, inr, arith}
+use Rattle.std.proofs.Common.{take, drop, None, Some, Ok, append_assoc, length-append, length-drop, length-take, add-one, inl, inr, arith}
 use Rattle.std.specs.List.{list_all, range_with_len}
 use Rattle.std.proofs.Math.Seq.{drop-append_seam, take-append_seam, drop-append-add, drop-drop}
-use Rattle.std.proofs.lemmas.Bool.{cases_Bool, cases_lt}
+use Rattle.std.proofs.lemmas.Bool.{cases_Bool}
 use Rattle.std.proofs.lemmas.List.{length-map, get_or-map}
 use Rattle.std.proofs.lemmas.List.Elements.{All-get_or, All-head, All-tail}
 use Rattle.std.proofs.lemmas.List.FromFn.{fill_by_all, get_or-map-range_with_len, length-map-range_with_len}
@@ -20,12 +20,11 @@ use Rattle.bw_model.specs.Variable.{is_nullable}
 use Rattle.bw_model.specs.Name.{are_apart}
 use Rattle.bw_model.specs.SchemaText.{column_shape, schema_shape, SchemaShape}
 use Rattle.bw_model.proofs.BitsLemmas.{both}
-use Rattle.bw_model.proofs.GroupLemmas.{groups_of-count, groups_of-first, groups_of-sizes, groups_of-table}
+use Rattle.bw_model.proofs.GroupLemmas.{groups_of-count, groups_of-first, groups_of-table}
 use Rattle.bw_model.proofs.SameColumns.{columns_same}
 use Rattle.bw_model.proofs.SchemaLemmas.{shape_names-of}
 use Rattle.bw_segment.specs.declared.column_blocks.ColumnBlocks.{ColumnBlocks}
 use Rattle.bw_segment.specs.ColumnBlocks.{block_numbered, segment_numbered}
-use Rattle.bw_segment.specs.Meaning.{IsGroup}
 use Rattle.bw_segment.specs.Packing.{block_bytes, segment_bytes as packed_segment}
 use Rattle.bw_segment.proofs.BlankLemmas.{block_blank, block_same}
 use Rattle.bw_segment.proofs.BytesLemmas.{length-block, rows_of_bytes}
@@ -33,7 +32,7 @@ use Rattle.bw_segment.proofs.SoundLemmas.{same_in_range}
 use Rattle.bw_segment.proofs.ValueLemmas.{admits_at, admitted_by_column, held_admitted, held_is_admitted, null_admitted, stored_within}
 use Rattle.bw_file.specs.declared.layout.Layout.{Layout}
 use Rattle.bw_file.specs.declared.order.FileOrder.TheVariants.{ByColumns}
-use Rattle.bw_file.specs.Blocks.{block_size, bytes_before, form_of, rows_spelled, segment_bytes}
+use Rattle.bw_file.specs.Blocks.{block_size, bytes_before, form_of, rows_spelled, segment_bytes, segment_size}
 use Rattle.bw_file.specs.Columnar.{IsColumnarFile, column_blocks, columnar_bytes}
 use Rattle.bw_file.specs.Reading.{Tail, tail}
 use Rattle.bw_file.specs.TableReading.{HeaderShape, header_in}
@@ -46,9 +45,9 @@ use Rattle.bw_file.proofs.SpelledHeader.{IsWhole, header_reads}
 use Rattle.bw_file.proofs.SpellingLemmas.{IsHeader, head_bytes, ok_is}
 use Rattle.bw_memory.specs.declared.columnar.ColumnarTable.{ColumnarTable}
 use Rattle.bw_memory.specs.declared.table.MemoryTable.{MemoryTable}
-use Rattle.bw_memory.specs.Columnar.{HasBlock, HasColumns, IsOpened, columnar_header, head_size, place_in, table_in}
-use Rattle.bw_memory.specs.Columns.{block_in}
-use Rattle.bw_memory.specs.MemoryTable.{groups_in, layout_of, rows_of, schema_of, segments_in}
+use Rattle.bw_memory.specs.Columnar.{HasColumns, IsOpened, StatesHeader, columnar_header, head_size}
+use Rattle.bw_memory.specs.Columnar.{table_in}
+use Rattle.bw_memory.specs.MemoryTable.{layout_of, rows_of, schema_of, segments_in}
 use Rattle.bw_memory.specs.NamedRows.{read_row}
 use Rattle.bw_memory.specs.StoredSegments.{rows_numbered, stored_group, stored_groups}
 
@@ -91,7 +90,7 @@ length-pieces f P size long (x ∷ xs) all =
 some_rows : (i : ℕ) (rows : List (List Value)) → i < length (groups_of rows) → 0 < length rows
 some_rows i rows lt = omega (arith, lt, groups_of-count rows)
 
-group_at : (i : ℕ) (rows : List (List Value)) → i < length (groups_of rows) → get_or (groups_of rows) i [] ≡ take 512 (drop (512 * i) rows)
+pub group_at : (i : ℕ) (rows : List (List Value)) → i < length (groups_of rows) → get_or (groups_of rows) i [] ≡ take 512 (drop (512 * i) rows)
 unfolding group_size
 group_at zero rows lt = ap (λ (l : List (List (List Value))). get_or l 0 []) (groups_of-first rows (some_rows zero rows lt))
 group_at (suc i) rows lt =
@@ -214,7 +213,17 @@ module _ (layout : Layout) (schema : Schema) (rows : List (List Value)) (admitte
   long_text column =
       length-pieces (block_bytes (form_of layout) columns column) (IsGroupOf columns) (block_size layout columns column) (long_block column) (groups_of rows) (groups_admitted columns rows admitted)
 
-  block_is : (bytes head : List ℕ) (column number : ℕ) → bytes ≡ head ++ flat_map texts (range_with_len 0 (length columns)) → column < length columns → number < count
+  length_from : (k a : ℕ) → count * bytes_before layout columns a + length (flat_map texts (range_with_len a k)) ≡ count * bytes_before layout columns (a + k)
+  length_from zero a = omega (arith, ap (λ n. count * bytes_before layout columns n) {x = a} {y = a + 0} (omega arith))
+  length_from (suc k) a =
+      let before : ℕ → ℕ = λ n. count * bytes_before layout columns n in
+      let next : before (a + 1) ≡ before a + count * block_size layout columns a = ap before (add-one a) ∙ omega arith in
+      omega (arith, length-append (texts a) (flat_map texts (range_with_len (a + 1) k)), long_text a, next, length_from k (a + 1), ap before {x = a + 1 + k} {y = a + suc k} (omega arith))
+
+  pub length_body : length (flat_map texts (range_with_len 0 (length columns))) ≡ count * segment_size layout columns
+  length_body = omega (arith, length_from (length columns) 0, ap (λ n. count * bytes_before layout columns n) {x = 0 + length columns} {y = length columns} (omega arith))
+
+  pub block_is : (bytes head : List ℕ) (column number : ℕ) → bytes ≡ head ++ flat_map texts (range_with_len 0 (length columns)) → column < length columns → number < count
       → take (block_size layout columns column) (drop (length head + count * bytes_before layout columns column + number * block_size layout columns column) bytes)
       ≡ block_bytes (form_of layout) columns column (get_or (groups_of rows) number [])
   unfolding column_blocks
@@ -238,13 +247,13 @@ count_is rows (suc segments) all each = omega (arith, all, each segments (omega 
 
 -- the header of a file by columns is read as its own
 module _ (bytes : List ℕ) (layout : Layout) (schema : Schema) (rows : List (List Value)) (file : IsColumnarFile bytes layout schema rows) where
-  abbrev stated : HeaderShape
+  abbrev pub stated : HeaderShape
   stated = record { version = 2; layout = layout; rows = length rows; schema = schema_shape schema }
 
-  abbrev body : List ℕ
+  abbrev pub body : List ℕ
   body = flat_map (column_blocks layout schema.columns.items rows) (range_with_len 0 (length schema.columns.items))
 
-  whole : IsWhole ByColumns stated
+  pub whole : IsWhole ByColumns stated
   whole =
       let columns = schema.columns.items in
       let count : length (map column_shape columns) ≡ length columns = length-map columns column_shape in
@@ -256,12 +265,39 @@ module _ (bytes : List ℕ) (layout : Layout) (schema : Schema) (rows : List (Li
         apart = ap are_apart (shape_names-of columns) ∙ schema.apart;
       }
 
-  parts : bytes ≡ head_bytes ByColumns stated ++ body
+  pub parts : bytes ≡ head_bytes ByColumns stated ++ body
   unfolding columnar_bytes
   parts = file.text ∙ ap (λ (l : List ℕ). l ++ body) (sym (head_is ByColumns 2 (length rows) layout schema))
 
-  header_read : header_in ByColumns (tail 0 bytes) ≡ Ok (stated, tail (0 + length (head_bytes ByColumns stated)) body)
-  header_read = ap (λ (l : List ℕ). header_in ByColumns (tail 0 l)) parts ∙ (header_reads ByColumns stated whole).reads 0 body
+  pub header_reads_on : (rest : List ℕ) → header_in ByColumns (tail 0 (head_bytes ByColumns stated ++ rest)) ≡ Ok (stated, tail (length (head_bytes ByColumns stated)) rest)
+  header_reads_on rest =
+      let end = length (head_bytes ByColumns stated) in
+      (header_reads ByColumns stated whole).reads 0 rest ∙ ap (λ n. Ok (stated, tail n rest)) {x = 0 + end} {y = end} (omega arith)
+
+  -- a table whose header is this one, whatever follows it
+  module _ (columnar : ColumnarTable) (rest : List ℕ) (states : StatesHeader columnar (head_bytes ByColumns stated ++ rest)) where
+    same : ◌≡◌ {A = HeaderShape × Tail} (stated, tail (length (head_bytes ByColumns stated)) rest)
+        (columnar_header states.0 columnar, tail (head_size columnar) (drop (head_size columnar) (head_bytes ByColumns stated ++ rest)))
+    same = ok_is _ _ (sym (header_reads_on rest) ∙ states.1)
+
+    pub layout_same : layout_of (table_in columnar) ≡ layout
+    layout_same = sym (ap (λ (x : HeaderShape × Tail). x.0.layout) same)
+
+    pub schema_same : schema_shape (schema_of (table_in columnar)) ≡ schema_shape schema
+    schema_same = sym (ap (λ (x : HeaderShape × Tail). x.0.schema) same)
+
+    pub columns_are : (schema_of (table_in columnar)).columns.items ≡ schema.columns.items
+    columns_are = columns_same _ _ (ap (λ (s : SchemaShape). s.columns) schema_same)
+
+    pub rows_same : (table_in columnar).rows ≡ length rows
+    rows_same = sym (ap (λ (x : HeaderShape × Tail). x.0.rows) same)
+
+    pub head_same : head_size columnar ≡ length (head_bytes ByColumns stated)
+    head_same = sym (ap (λ (x : HeaderShape × Tail). x.1.at) same)
+
+    pub count_same : segments_in (table_in columnar) ≡ length (groups_of rows)
+    unfolding group_size
+    count_same = count_is (table_in columnar).rows (segments_in (table_in columnar)) (table_in columnar).kept.all (table_in columnar).kept.nonempty ∙ ap (λ n. (n + 511) / 512) rows_same ∙ sym (groups_of-count rows)
 
   module _ (columnar : ColumnarTable) (read : ℕ → Bool) (opened : IsOpened (Some bytes) columnar) (has : HasColumns (Some bytes) columnar read (length (schema_of (table_in columnar)).columns.items)) where
     abbrev table : MemoryTable
@@ -270,27 +306,26 @@ module _ (bytes : List ℕ) (layout : Layout) (schema : Schema) (rows : List (Li
     abbrev kept : List ColumnBlocks
     kept = table.columns.items
 
-    same : ◌≡◌ {A = HeaderShape × Tail} (stated, tail (0 + length (head_bytes ByColumns stated)) body) (columnar_header opened.header.0 columnar, tail (head_size columnar) (drop (head_size columnar) bytes))
-    same = ok_is _ _ (sym header_read ∙ opened.header.1)
-
-    layout_same : layout_of table ≡ layout
-    layout_same = sym (ap (λ (x : HeaderShape × Tail). x.0.layout) same)
+    states : StatesHeader columnar (head_bytes ByColumns stated ++ body)
+    states = subst (StatesHeader columnar) parts opened.header
 
     pub shape_same : schema_shape (schema_of table) ≡ schema_shape schema
-    shape_same = sym (ap (λ (x : HeaderShape × Tail). x.0.schema) same)
+    shape_same = schema_same columnar body states
 
-    columns_are : (schema_of table).columns.items ≡ schema.columns.items
-    columns_are = columns_same _ _ (ap (λ (s : SchemaShape). s.columns) shape_same)
+    layout_is : layout_of table ≡ layout
+    layout_is = layout_same columnar body states
 
-    rows_same : table.rows ≡ length rows
-    rows_same = sym (ap (λ (x : HeaderShape × Tail). x.0.rows) same)
+    columns_is : (schema_of table).columns.items ≡ schema.columns.items
+    columns_is = columns_are columnar body states
 
-    head_same : head_size columnar ≡ length (head_bytes ByColumns stated)
-    head_same = sym (ap (λ (x : HeaderShape × Tail). x.1.at) same) ∙ omega arith
+    rows_is : table.rows ≡ length rows
+    rows_is = rows_same columnar body states
 
-    count_same : segments_in table ≡ length (groups_of rows)
-    unfolding group_size
-    count_same = count_is table.rows (segments_in table) table.kept.all table.kept.nonempty ∙ ap (λ n. (n + 511) / 512) rows_same ∙ sym (groups_of-count rows)
+    head_is_there : head_size columnar ≡ length (head_bytes ByColumns stated)
+    head_is_there = head_same columnar body states
+
+    count_is_there : segments_in table ≡ length (groups_of rows)
+    count_is_there = count_same columnar body states
 
     moved : (column number : ℕ) (L : Layout) (C : List Column) (h n : ℕ) → L ≡ layout → C ≡ schema.columns.items → h ≡ length (head_bytes ByColumns stated) → n ≡ length (groups_of rows)
         → take (block_size L C column) (drop (h + n * bytes_before L C column + number * block_size L C column) bytes)
@@ -299,10 +334,10 @@ module _ (bytes : List ℕ) (layout : Layout) (schema : Schema) (rows : List (Li
 
     blocks : (number : ℕ) → number < segments_in table → AreBlocks schema.columns.items read layout kept number (get_or (groups_of rows) number [])
     blocks number lt column there =
-        let within : column < length (schema_of table).columns.items = omega (arith, there, ap length columns_are) in (
-          λ is. has.blocks column within is number lt ∙ moved column number (layout_of table) (schema_of table).columns.items (head_size columnar) (segments_in table) layout_same columns_are head_same count_same
-              ∙ block_is layout schema rows file.admitted.admitted bytes (head_bytes ByColumns stated) column number parts there (omega (arith, lt, count_same)),
-          λ not. has.blank column within (inr not) number lt ∙ ap₂ (λ (L : Layout) (C : List Column). block_bytes (form_of L) C column []) layout_same columns_are,
+        let within : column < length (schema_of table).columns.items = omega (arith, there, ap length columns_is) in (
+          λ is. has.blocks column within is number lt ∙ moved column number (layout_of table) (schema_of table).columns.items (head_size columnar) (segments_in table) layout_is columns_is head_is_there count_is_there
+              ∙ block_is layout schema rows file.admitted.admitted bytes (head_bytes ByColumns stated) column number parts there (omega (arith, lt, count_is_there)),
+          λ not. has.blank column within (inr not) number lt ∙ ap₂ (λ (L : Layout) (C : List Column). block_bytes (form_of L) C column []) layout_is columns_is,
         )
 
     stored_as : (L : Layout) (C : List Column) (n : ℕ) → L ≡ layout → C ≡ schema.columns.items → n ≡ length rows
@@ -312,6 +347,6 @@ module _ (bytes : List ℕ) (layout : Layout) (schema : Schema) (rows : List (Li
     pub rows_are : rows_of table ≡ map (read_row schema.columns.items read) rows
     rows_are =
         ap (λ (l : List (List (List Value))). together l)
-        (stored_as (layout_of table) (schema_of table).columns.items table.rows layout_same columns_are rows_same
-        ∙ groups_are schema.columns.items read layout rows kept (segments_in table) file.admitted.admitted count_same (table.kept.blocks.all ∙ ap length columns_are) blocks)
+        (stored_as (layout_of table) (schema_of table).columns.items table.rows layout_is columns_is rows_is
+        ∙ groups_are schema.columns.items read layout rows kept (segments_in table) file.admitted.admitted count_is_there (table.kept.blocks.all ∙ ap length columns_is) blocks)
         ∙ together_map (read_row schema.columns.items read) (groups_of rows) ∙ ap (map (read_row schema.columns.items read)) (groups_of-table rows)

@@ -72,8 +72,8 @@ IsTableOf (in_file known header) table = IsFileTable known header table
 -- the file has this error in a column, or can't be read, or memory was refused
 abbrev pub HasColumnFault : ColumnSource → ℕ → Fault → Type 0
 HasColumnFault (in_memory whole) column fault = ⊥
-HasColumnFault (in_file known header) column fault = (columnar : ColumnarTable)
-    × (header_of columnar ≡ header) × IsColumnFault known columnar column fault
+HasColumnFault (in_file known header) column fault = ∥ ((columnar : ColumnarTable)
+    × (header_of columnar ≡ header) × IsColumnFault known columnar column fault) ∥₁
 
 -- the columns
 abbrev pub columns_of : ColumnSource → List Column

@@ -115,17 +115,20 @@ IsColumnFault known columnar column fault =
     * block_size (layout_of (table_in columnar)) (schema_of (table_in columnar)).columns.items column)
     fault
 
--- These blocks, back to back, are valid ones of a column in all segments, and those of the file, if
--- its bytes are known.
+-- these blocks, back to back, are valid ones of a column in all segments
+abbrev pub AreValidBlocks : ColumnarTable → ℕ → List ℕ → Type 0
+AreValidBlocks columnar column blocks = (number : ℕ) → number < segments_in (table_in columnar)
+    → block_fault (layout_of (table_in columnar)) (schema_of (table_in columnar)).columns.items column
+    (rows_numbered (table_in columnar).rows number) (piece_of blocks
+    (block_size (layout_of (table_in columnar)) (schema_of (table_in columnar)).columns.items column)
+    number) ≡ None
+
+-- they are as many as the column has, and those of the file, if its bytes are known
 pub record AreFileBlocks (known : Option (List ℕ)) (columnar : ColumnarTable) (column : ℕ)
     (blocks : List ℕ) : Type 0 where
   pub long : length blocks ≡ segments_in (table_in columnar)
       * block_size (layout_of (table_in columnar)) (schema_of (table_in columnar)).columns.items column
-  pub valid : (number : ℕ) → number < segments_in (table_in columnar)
-      → block_fault (layout_of (table_in columnar)) (schema_of (table_in columnar)).columns.items
-      column (rows_numbered (table_in columnar).rows number) (piece_of blocks
-      (block_size (layout_of (table_in columnar)) (schema_of (table_in columnar)).columns.items column)
-      number) ≡ None
+  pub valid : AreValidBlocks columnar column blocks
   pub are : (number : ℕ) → number < segments_in (table_in columnar)
       → IfSome known (HasBlock columnar column number (piece_of blocks
       (block_size (layout_of (table_in columnar)) (schema_of (table_in columnar)).columns.items column)

@@ -4,12 +4,16 @@ ghost use Rattle.std.specs.Prelude.{◌≡◌, ◌-◌, ◌^◌, ◌<◌, ◌≤
 ghost use Rattle.std.specs.Prelude.{true};
 ghost use Rattle.bw_io.specs.Source.{is_input_fault, is_read_fault};
 ghost use Rattle.bw_file.specs.TableReading.{IsTableFault};
-ghost use Rattle.bw_memory.specs.Columnar.{HasReadColumn, IsColumnFault, column_count, table_in};
+ghost use Rattle.bw_memory.specs.Columnar.{AreFileBlocks, HasReadColumn, IsColumnFault, column_count};
+ghost use Rattle.bw_memory.specs.Columnar.{table_in};
 ghost use Rattle.bw_memory.specs.ColumnStore.{header_of, in_file};
 ghost use Rattle.bw_memory.specs.Columns.{IsBlank};
-ghost use Rattle.bw_memory.specs.FileColumns.{HasColumnsRead, IsBlankElsewhere};
+ghost use Rattle.bw_memory.specs.FileColumns.{HasColumnDamage, HasColumnsRead, IsBlankElsewhere};
+ghost use Rattle.bw_memory.specs.FileColumns.{state_of};
+ghost use Rattle.bw_memory.specs.declared.column_state.ColumnState.TheVariants as state;
 ghost use Rattle.bw_memory.specs.Failed.{has_failed_to_read};
 
+use crate::column_state::ColumnState;
 use crate::column_store::ColumnStore;
 use crate::columnar::ColumnarTable;
 use crate::table::MemoryTable;
@@ -17,17 +21,19 @@ use bw_io::RandomAccess;
 use bw_model::{Fault, Place, code};
 use std::alloc::Global;
 
-/// A file by columns and its table. A column is read when it is first needed, and stays in memory.
-/// Once a read has failed, or the file has changed, the file is read no more.
+/// A file by columns and its table. A column is read when it is first needed, and stays in memory; so
+/// does the error of one that is damaged. Once a read has failed, or the file has changed, the file is
+/// read no more.
 #[derive(Drop)]
 pub struct FileColumns<D: RandomAccess + Drop> {
     pub(crate) device: D,
     pub(crate) columnar: ColumnarTable,
-    pub(crate) is_read: Vec<bool>,
+    pub(crate) states: Vec<ColumnState>,
     pub(crate) is_lost: bool,
-    ghost all: { length is_read.items ≡ column_count columnar },
-    ghost have: { HasColumnsRead (D.state device).known columnar is_read.items } by { Prim.hlevel props },
-    ghost blank: { IsBlankElsewhere columnar is_read.items },
+    ghost all: { length states.items ≡ column_count columnar },
+    ghost have: { HasColumnsRead (D.state device).known columnar states.items } by { Prim.hlevel props },
+    ghost blank: { IsBlankElsewhere columnar states.items },
+    ghost damage: { HasColumnDamage (D.state device).known columnar states.items },
     ghost counter_fits: { is_lost ≡ false → (D.state device).failures < 2 ^ 64 - 1 },
     ghost confirmed: { is_lost ≡ false → (D.state device).confirmed ≡ true },
 }
@@ -44,27 +50,29 @@ impl<D: RandomAccess + Drop> FileColumns<D> {
         ensures table { IfOk result (λ columns. columns.columnar ≡ columnar) }
         ensures known { IfOk result (λ columns. (D.state columns.device).known
             ≡ (D.state device).known) }
+        ensures found { IfOk result (λ columns. columns.is_lost ≡ false) }
         ensures fault { IfErr result (λ fault. IsTrue (is_input_fault fault)) }
     {
         if device.confirm().is_err() {
             return Err(Fault::new(code::READ_FAILED));
         }
         let count = columnar.table().schema().columns.len();
-        let mut is_read = Vec::with_capacity(alloc, count)?;
-        is_read.resize(count, false)?;
+        let mut states = Vec::with_capacity(alloc, count)?;
+        states.resize(count, ColumnState::Unread)?;
         Ok(FileColumns {
             device,
             columnar,
-            is_read,
+            states,
             is_lost: false,
         })
     }
 
-    /// Reads a column into memory, unless the file has changed.
+    /// Reads a column into memory, unless the file has changed. If it is damaged, its error stays.
     ///
     /// Errors: those of [`ColumnarTable::read_column`]; 701 also if the file has changed.
     fn read_from_file(&mut self, alloc: Global, column: usize) -> Result<(), Fault>
         requires column { column < column_count self.old.columnar }
+        requires unread { state_of self.old.states.items column ≡ state.Unread }
         requires there { self.old.is_lost ≡ false }
         ensures read { OnOk result (HasReadColumn (D.state self.old.device).known self.old.columnar
             self.new.columnar column) }
@@ -85,10 +93,46 @@ impl<D: RandomAccess + Drop> FileColumns<D> {
             self.is_lost = true;
             return Err(Fault::new(code::READ_FAILED));
         }
-        let blocks = done?;
-        self.columnar.table.replace_column(alloc, column, blocks);
-        self.is_read[column] = true;
-        Ok(())
+        match done {
+            Ok(blocks) => {
+                self.store(alloc, column, blocks);
+                Ok(())
+            }
+            Err(fault) => {
+                if !fault.is_memory() {
+                    self.keep_error(column, fault);
+                }
+                Err(fault)
+            }
+        }
+    }
+
+    /// Stores a column's blocks.
+    fn store(&mut self, alloc: Global, column: usize, blocks: Vec<u8>)
+        requires column { column < column_count self.old.columnar }
+        requires blocks { AreFileBlocks (D.state self.old.device).known self.old.columnar column
+            blocks.items }
+        ensures read { HasReadColumn (D.state self.old.device).known self.old.columnar
+            self.new.columnar column }
+        ensures device { self.new.device ≡ self.old.device }
+        ensures same { self.new.is_lost ≡ self.old.is_lost }
+    {
+        self.columnar.put_column(alloc, column, blocks);
+        self.states[column] = ColumnState::Read;
+    }
+
+    /// Keeps the error of a column that wasn't read.
+    fn keep_error(&mut self, column: usize, fault: Fault)
+        requires column { column < column_count self.old.columnar }
+        requires unread { state_of self.old.states.items column ≡ state.Unread }
+        requires there { IsColumnFault (D.state self.old.device).known self.old.columnar column fault }
+        requires table { IsTableFault fault }
+        requires damage { is_input_fault fault ≡ false }
+        ensures columnar { self.new.columnar ≡ self.old.columnar }
+        ensures device { self.new.device ≡ self.old.device }
+        ensures same { self.new.is_lost ≡ self.old.is_lost }
+    {
+        self.states[column] = ColumnState::Damaged(fault);
     }
 }
 
@@ -119,12 +163,11 @@ impl<D: RandomAccess + Drop> ColumnStore for FileColumns<D> {
     }
 
     fn read(&mut self, alloc: Global, column: usize) -> Result<(), Fault> {
-        if self.is_read[column] {
-            return Ok(());
+        match self.states[column] {
+            ColumnState::Read => Ok(()),
+            ColumnState::Damaged(fault) => Err(fault),
+            ColumnState::Unread if self.is_lost => Err(Fault::new(code::READ_FAILED)),
+            ColumnState::Unread => self.read_from_file(alloc, column),
         }
-        if self.is_lost {
-            return Err(Fault::new(code::READ_FAILED));
-        }
-        self.read_from_file(alloc, column)
     }
 }

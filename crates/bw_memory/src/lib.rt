@@ -25,6 +25,7 @@
 //! ```
 #![tactic(auto)]
 
+mod column_state;
 mod column_store;
 mod columnar;
 mod columns;
@@ -41,7 +42,10 @@ mod windows;
 pub use column_store::ColumnStore;
 pub use columnar::ColumnarTable;
 pub use file_columns::FileColumns;
-pub use laws::{columns_are_those_of_the_file, stored_rows_are_those_of_the_file};
+pub use laws::{
+    a_cut_file_by_columns_is_refused, a_file_that_was_read_is_of_its_rows,
+    a_written_file_has_no_damage, columns_are_those_of_the_file, stored_rows_are_those_of_the_file,
+};
 pub use opening::is_by_columns;
 pub use segment_window::SegmentWindow;
 pub use table::MemoryTable;

@@ -1,18 +1,19 @@
 //! Opens a file by columns, and reads its columns.
 ghost use Rattle.std.specs.Prelude.{◌≡◌, ◌+◌, ◌*◌, ◌/◌, ◌-◌, ◌^◌, ◌<◌, length, take};
-ghost use Rattle.std.specs.Prelude.{true, false, IfErr, IfOk, IfSome, OnOk, OnErr};
+ghost use Rattle.std.specs.Prelude.{ℕ, List, Option, true, false, IfErr, IfOk, IfSome, OnOk, OnErr};
 ghost use Rattle.bw_io.specs.Source.{failed_by, is_input_fault};
 ghost use Rattle.bw_file.specs.declared.order.FileOrder.TheVariants.{ByColumns};
 ghost use Rattle.bw_file.specs.Blocks.{block_size};
 ghost use Rattle.bw_file.specs.FileBytes.{magic};
 ghost use Rattle.bw_file.specs.TableReading.{IsTableFault};
-ghost use Rattle.bw_memory.specs.Columnar.{AreFileBlocks, HasColumns, HasDamage, HasReadColumn};
+ghost use Rattle.bw_memory.specs.Columnar.{AreFileBlocks, AreValidBlocks, HasColumns, HasDamage};
+ghost use Rattle.bw_memory.specs.Columnar.{HasReadColumn};
 ghost use Rattle.bw_memory.specs.Columnar.{IsColumnFault};
 ghost use Rattle.bw_memory.specs.Columnar.{IsOpened, IsOpenFault, SameHeader, column_count};
 ghost use Rattle.bw_memory.specs.Columnar.{IsReadFault, columnar_size};
 ghost use Rattle.bw_memory.specs.Columnar.{is_wanted, place_in, table_in};
 ghost use Rattle.bw_memory.specs.Columns.{IsBlank};
-ghost use Rattle.bw_memory.specs.MemoryTable.{schema_of};
+ghost use Rattle.bw_memory.specs.MemoryTable.{layout_of, schema_of, segments_in};
 
 use crate::columnar::ColumnarTable;
 use crate::filling::fill_at;
@@ -142,8 +143,22 @@ impl ColumnarTable {
             ≡ (D.state device.old).failures + failed_by result }
     {
         let blocks = self.column_blocks(alloc, device, col)?;
-        self.table.replace_column(alloc, col, blocks);
+        self.put_column(alloc, col, blocks);
         Ok(())
+    }
+
+    /// Puts blocks in place of those of a column: those of all segments, back to back, each of which
+    /// must be valid.
+    pub(crate) fn put_column(&mut self, alloc: Global, col: usize, blocks: Vec<u8>)
+        requires column { col < column_count self.old }
+        requires long { length blocks.items ≡ segments_in (table_in self.old)
+            * block_size (layout_of (table_in self.old)) (schema_of (table_in self.old)).columns.items
+            col }
+        requires valid { AreValidBlocks self.old col blocks.items }
+        ensures { (known : Option (List ℕ)) → AreFileBlocks known self.old col blocks.items
+            → HasReadColumn known self.old self.new col }
+    {
+        self.table.replace_column(alloc, col, blocks);
     }
 
     /// Returns the blocks of a column in all segments, back to back, and validated. Errors: those of

@@ -5,4 +5,4 @@ use Rattle.bw_memory.proofs.file_columns.FileColumnsColumnStore.table.Goals as g
 pub returns-clause-of : goal.returns-clause-of
 returns-clause-of g c =
     let self = c.args.self.now in
-    table_is (g.D.RandomAccess.state self.device).known self.columnar self.is_read.items self.have self.blank
+    table_is (g.D.RandomAccess.state self.device).known self.columnar self.states.items self.have self.blank
