@@ -29,8 +29,8 @@ module _ (known : Option (List ℕ)) (read : ℕ → Bool) where
   }
 
   -- the next column isn't needed
-  pub passed : (columnar : ColumnarTable) (count : ℕ) → read count ≡ false → HasColumns known columnar read count → HasColumns known columnar read (count + 1)
-  passed columnar count un has = record {
+  pub not_needed : (columnar : ColumnarTable) (count : ℕ) → read count ≡ false → HasColumns known columnar read count → HasColumns known columnar read (count + 1)
+  not_needed columnar count un has = record {
     blocks = λ column lt is. has.blocks column (before column lt is) is;
     blank = λ column lt is. has.blank column lt (other column is);
   }

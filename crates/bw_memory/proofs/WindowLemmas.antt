@@ -30,7 +30,7 @@ use Rattle.bw_memory.specs.StoredSegments.{StoresSegments, piece_of, rows_number
 use Rattle.bw_memory.specs.Windows.{HasGroups, HasPartsBefore, IsPart, IsSegmentRead, first_in, group_spelled, window_in}
 use Rattle.bw_memory.proofs.ColumnarLemmas.{few_segments, groups_cut, pieces_known, replaced_column, replaced_stored, small_product, valid_from}
 use Rattle.bw_memory.proofs.ReadColumnLemmas.{replaced}
-use Rattle.bw_memory.proofs.ReadColumnsLemmas.{added, none_read, passed}
+use Rattle.bw_memory.proofs.ReadColumnsLemmas.{added, none_read, not_needed}
 use Rattle.bw_memory.proofs.WholeColumnar.{length-pieces, piece_at}
 
 -- what a function gives before a number, and this from there on
@@ -289,7 +289,7 @@ module _ (known : Option (List ℕ)) (columnar : ColumnarTable) (read : ℕ → 
     column_passed count un made = record {
       kept = made.kept;
       stored = made.stored;
-      has = passed known read (table_of made.kept made.stored) count un made.has;
+      has = not_needed known read (table_of made.kept made.stored) count un made.has;
       here = λ column lt is. elim (cases_eq column count) [
         | inl same ↦ absurd (let e : true ≡ false = sym is ∙ ap read same ∙ un in cc e)
         | inr off ↦ made.here column (omega (arith, lt, off)) is

@@ -96,9 +96,7 @@ impl ColumnarTable {
             ≡ (D.state device.old).failures + failed_by result }
     {
         let mut columnar = ColumnarTable::open(alloc, device)?;
-        for col in 0..columnar.table.placement.schema.columns.len() {
-            columnar.read_column(alloc, device, col)?;
-        }
+        columnar.read_all(alloc, device)?;
         match device.confirm() {
             Ok(()) => Ok(columnar),
             Err(Failed) => Err(Fault::new(code::READ_FAILED)),
@@ -183,6 +181,29 @@ impl ColumnarTable {
         self.table
             .read_blocks(device, col, self.place_of(col), &mut blocks)?;
         Ok(blocks)
+    }
+
+    /// Reads all columns, in order. No column may have been read before.
+    ///
+    /// Errors: those of [`ColumnarTable::read_column`], of the first column that has one. The columns
+    /// before it have then been read.
+    pub fn read_all<D: RandomAccess>(&mut self, alloc: Global, device: &mut D) -> Result<(), Fault>
+        requires counter_fits { (D.state device.old).failures < 2 ^ 64 - 1 }
+        requires blank { IsBlank (table_in self.old) }
+        ensures read { OnOk result (HasColumns (D.state device.old).known self.new (λ _. true)
+            (column_count self.new)) }
+        ensures header { SameHeader self.old self.new }
+        ensures refused { IfErr result
+            (HasDamage (D.state device.old).known (λ _. true) self.new) }
+        ensures fault { IfErr result IsTableFault }
+        ensures same { (D.state device.new).known ≡ (D.state device.old).known }
+        ensures count { (D.state device.new).failures
+            ≡ (D.state device.old).failures + failed_by result }
+    {
+        for col in 0..self.table.placement.schema.columns.len() {
+            self.read_column(alloc, device, col)?;
+        }
+        Ok(())
     }
 
     /// Reads the columns of which `wanted` is true, in order. No column may have been read before.
