@@ -11,6 +11,8 @@ pub enum Reads {
     Failed(io::Error),
     /// The file changed meanwhile.
     Changed,
+    /// It is a pipe, and was to be read at places.
+    OfPipe,
 }
 
 /// Why a command failed: its error; the program file that has it, if the command may have several;

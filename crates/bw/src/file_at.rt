@@ -6,7 +6,7 @@ use crate::in_file::InFile;
 use bw_io::{Failed, RandomAccess};
 
 /// A regular file that is read at places. It states no bytes, and its length is the one that it had
-/// when it was opened. A pipe has no length: asking for it fails.
+/// when it was opened. A pipe has no length: asking for it fails. Its first eight bytes can be read.
 #[derive(Drop)]
 pub struct FileAt<'f> {
     file: &'f mut InFile,
@@ -44,6 +44,7 @@ impl RandomAccess for FileAt<'_> {
         match self.file.len() {
             Some(size) => Ok(size),
             None => {
+                self.file.refuse_places();
                 self.failures += 1;
                 Err(Failed)
             }

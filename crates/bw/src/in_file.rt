@@ -1,4 +1,5 @@
 //! An input file that mustn't change while it is read.
+ghost use Rattle.std.specs.Prelude.{◌+◌, ◌≤◌, length};
 ghost use Rattle.std.specs.Io.{ReadsAtMost};
 
 use crate::failure::Reads;
@@ -40,14 +41,56 @@ impl Version {
     }
 }
 
+/// The first bytes of a pipe, of which some have been given to a reader.
+#[derive(Clone, Copy)]
+struct Front {
+    bytes: [u8; 8],
+    count: usize,
+    given: usize,
+    ghost all: { count ≤ 8 },
+    ghost some: { given ≤ count },
+}
+
+impl Front {
+    /// Reads the first eight bytes, or fewer if there are no more.
+    fn read(file: &mut File) -> io::Result<Self> {
+        let mut bytes = [0u8; 8];
+        let mut count = 0;
+        while count < bytes.len() {
+            match file.read(&mut bytes[count..])? {
+                0 => break,
+                n => count += n,
+            }
+        }
+        Ok(Front {
+            bytes,
+            count,
+            given: 0,
+        })
+    }
+
+    /// Copies the bytes from a place on into the front of the buffer. Returns how many they are.
+    fn copy_from(&self, at: usize, buffer: &mut [u8]) -> usize
+        requires { at ≤ self.now.count }
+        ensures buffer { result ≤ length buffer.new }
+        ensures front { at + result ≤ self.now.count }
+    {
+        let bytes = &self.bytes[at..self.count];
+        let count = bytes.len().min(buffer.len());
+        buffer[..count].copy_from_slice(&bytes[..count]);
+        count
+    }
+}
+
 /// A file to read from. At its end, a regular file is compared with what it was when it was opened.
 /// If it has changed, the read that finds the end fails. Reads at places compare nothing:
-/// [`InFile::confirm`] does.
+/// [`InFile::confirm`] does. Of a pipe only the first eight bytes can be read at places.
 #[derive(Drop)]
 pub struct InFile {
     file: File,
     opened: Option<Version>,
     reads: Reads,
+    front: Option<Front>,
 }
 
 impl InFile {
@@ -58,6 +101,7 @@ impl InFile {
             file,
             opened,
             reads: Reads::Good,
+            front: None,
         }
     }
 
@@ -75,11 +119,31 @@ impl InFile {
     pub fn read_at(&mut self, at: u64, buffer: &mut [u8]) -> io::Result<usize>
         ensures { ReadsAtMost result buffer.new }
     {
-        let done = self.file.read_at(buffer, at);
+        let done = match self.opened {
+            Some(_) => self.file.read_at(buffer, at),
+            None => self.read_front(at, buffer),
+        };
         if let Err(error) = done {
             self.reads = Reads::Failed(error);
         }
         done
+    }
+
+    /// Reads the first bytes of a pipe from a place on.
+    fn read_front(&mut self, at: u64, buffer: &mut [u8]) -> io::Result<usize>
+        ensures { ReadsAtMost result buffer.new }
+    {
+        let front = match self.front {
+            Some(front) => front,
+            None => Front::read(&mut self.file)?,
+        };
+        self.front = Some(front);
+        Ok(front.copy_from(front.count.min(at as usize), buffer))
+    }
+
+    /// Notes that a pipe is to be read at places.
+    pub fn refuse_places(&mut self) {
+        self.reads = Reads::OfPipe;
     }
 
     /// Goes back to the first byte of a regular file. Returns whether it did.
@@ -113,6 +177,13 @@ impl InFile {
 
 impl Read for InFile {
     fn read(&mut self, buffer: &mut [u8]) -> io::Result<usize> {
+        if let Some(front) = &mut self.front {
+            if front.given < front.count {
+                let count = front.copy_from(front.given, buffer);
+                front.given += count;
+                return Ok(count);
+            }
+        }
         let done = self.file.read(buffer);
         match done {
             Err(error) => self.reads = Reads::Failed(error),

@@ -3,8 +3,9 @@ use crate::failure::{CommandFailure, or_failure, or_write_failure};
 use crate::opened::{open, read_numbers, read_schema, read_table};
 use crate::out_file::OutFile;
 use bw_file::FileOrder;
-use bw_io::write_whole;
-use bw_shell::recode;
+use bw_io::{BytesAt, write_whole};
+use bw_memory::is_by_columns;
+use bw_shell::{recode, recode_by_columns};
 
 /// Runs `bw recode`. The three inputs are opened before one is read, and read in the order of their
 /// mention. The output is created by the first write.
@@ -22,7 +23,12 @@ pub fn run_recode<'a>(
     let table = read_table(rt, table_path, table)?;
     let schema = read_schema(rt, schema_path, schema)?;
     let numbers = read_numbers(rt, numbers_path, numbers)?;
-    let file = or_failure(recode(rt.alloc(), order, &table, &schema, &numbers), &[])?;
+    let done = if is_by_columns(&mut BytesAt::new(&table)) {
+        recode_by_columns(rt.alloc(), order, &table, &schema, &numbers)
+    } else {
+        recode(rt.alloc(), order, &table, &schema, &numbers)
+    };
+    let file = or_failure(done, &[])?;
     write_file(rt, out, &file)
 }
 

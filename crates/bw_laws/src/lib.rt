@@ -35,7 +35,8 @@ pub use in_memory::a_table_in_memory_is_answered_as_its_file;
 pub use inferred_text::an_inferred_schema_text_spells_its_schema;
 pub use kept_plan::a_kept_plan_is_used;
 pub use load_by_columns::{
-    a_session_by_columns_answers_what_was_loaded, what_is_loaded_by_columns_is_answered,
+    a_session_by_columns_answers_what_was_loaded, what_is_dumped_by_columns_is_loaded,
+    what_is_loaded_by_columns_is_answered,
 };
 pub use load_then_query::what_is_loaded_is_answered;
 pub use named_columns::an_answer_depends_on_named_columns;

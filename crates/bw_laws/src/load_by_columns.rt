@@ -2,7 +2,9 @@
 ghost use Rattle.std.specs.Prelude.{◌≡◌, ℕ, List, None, Option, Some, Ok};
 ghost use Rattle.std.specs.Io.KnownBytes.{Appends};
 ghost use Rattle.bw_file.specs.declared.layout.Layout.{Layout};
+ghost use Rattle.bw_file.specs.declared.order.FileOrder.{FileOrder};
 ghost use Rattle.bw_file.specs.declared.order.FileOrder.TheVariants.{ByColumns};
+ghost use Rattle.bw_file.specs.Columnar.{IsColumnarFile, bytes_in_order};
 ghost use Rattle.bw_answer.specs.Answer.{csv_text, meaning};
 ghost use Rattle.bw_csv_calls.specs.Direct.{answer_of};
 ghost use Rattle.bw_memory.specs.Columnar.{IsOpened, table_in};
@@ -12,10 +14,12 @@ ghost use Rattle.bw_memory.specs.declared.columnar.ColumnarTable.{ColumnarTable}
 ghost use Rattle.bw_model.specs.Column.{names_of};
 ghost use Rattle.bw_model.specs.Row.{Value};
 ghost use Rattle.bw_model.specs.declared.query.Query.{Query};
+ghost use Rattle.bw_model.specs.declared.schema.Schema.{Schema};
 ghost use Rattle.bw_query.specs.ColumnarAnswer.{ColumnarText};
 ghost use Rattle.bw_query.specs.NamedColumns.{is_named_by};
 ghost use Rattle.bw_query.specs.TableAnswer.{IsEveryRow, by_dump, by_statement};
 ghost use Rattle.bw_sql.specs.Statement.{IsReadAs};
+ghost use Rattle.bw_laws.specs.Backup.{table_text};
 ghost use Rattle.bw_laws.specs.LoadThenQuery.{AnswersCsv};
 ghost use Rattle.bw_csv_calls.specs.Load.{file_in};
 
@@ -56,4 +60,23 @@ pub fn a_session_by_columns_answers_what_was_loaded(schema: &Schema)
 {
     schema.has_names_and_bounds();
     stored_rows_are_those_of_the_file();
+}
+
+/// A theorem about `dump_by_columns` and `load_in_order`: a dump of a file by columns writes the table
+/// as a CSV text. Loading it by columns, in the same layout, yields the bytes of the file; in another
+/// order or layout the table's file there.
+pub fn what_is_dumped_by_columns_is_loaded()
+    ensures took { (bytes : List ℕ) (layout : Layout) (schema : Schema) (rows : List (List Value))
+        (text : List ℕ) (old new : Option (List ℕ)) → IsColumnarFile bytes layout schema rows
+        → ColumnarText by_dump None (Some bytes) text → Appends old new text
+        → Appends old new (table_text schema rows) }
+    ensures loaded { (bytes : List ℕ) (layout other : Layout) (schema : Schema)
+        (rows : List (List Value)) (order : FileOrder) → IsColumnarFile bytes layout schema rows
+        → file_in order other schema (table_text schema rows)
+        ≡ Ok (bytes_in_order order other schema rows) }
+    ensures same { (bytes : List ℕ) (layout : Layout) (schema : Schema) (rows : List (List Value))
+        → IsColumnarFile bytes layout schema rows
+        → file_in ByColumns layout schema (table_text schema rows) ≡ Ok bytes }
+{
+    columns_are_those_of_the_file();
 }

@@ -1,5 +1,5 @@
 //! Runs queries over a table in memory.
-ghost use Rattle.std.specs.Prelude.{◌≡◌, ◌⊎◌, ◌-◌, ◌^◌, ◌<◌, ℕ, List, None, Result, Ok, IsTrue};
+ghost use Rattle.std.specs.Prelude.{◌≤◌, ◌≡◌, ◌⊎◌, ◌-◌, ◌^◌, ◌<◌, ℕ, List, None, Result, Ok, IsTrue};
 ghost use Rattle.std.specs.Prelude.{IfOk, IfErr, false, true};
 ghost use Rattle.bw_model.specs.declared.fault.Fault.{Fault};
 ghost use Rattle.bw_model.specs.declared.query.Query.{Query};
@@ -106,6 +106,7 @@ pub fn answer_with_programs<C: ColumnStore, K: Sink>(
         → C.is_lost store.new ≡ true) }
     ensures failed { C.is_lost store.old ≡ false → C.is_lost store.new ≡ true
         → C.failures store.old < C.failures store.new }
+    ensures count { C.failures store.old ≤ C.failures store.new }
 
     // The programs serve the next statement too, by the same program files, over the same table.
     ensures serves { Serves (schema_of (C.table store.new)).columns.items programs.new }

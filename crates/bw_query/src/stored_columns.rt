@@ -1,5 +1,5 @@
 //! Has the columns of a query in memory.
-ghost use Rattle.std.specs.Prelude.{◌≡◌, ◌<◌, IfErr, IsTrue, OnOk, false, true};
+ghost use Rattle.std.specs.Prelude.{◌≡◌, ◌<◌, ◌≤◌, IfErr, IsTrue, OnOk, false, true};
 ghost use Rattle.bw_io.specs.Source.{is_read_fault};
 ghost use Rattle.bw_file.specs.TableReading.{IsTableFault};
 ghost use Rattle.bw_memory.specs.ColumnStore.{HasFirstFault, HasRows};
@@ -28,6 +28,7 @@ pub(crate) fn read_named<C: ColumnStore>(
         → C.is_lost store.new ≡ true) }
     ensures failed { C.is_lost store.old ≡ false → C.is_lost store.new ≡ true
         → C.failures store.old < C.failures store.new }
+    ensures count { C.failures store.old ≤ C.failures store.new }
 {
     for column in 0..store.table().schema().columns.len() {
         if is_named(query, column) {

@@ -5,32 +5,31 @@ ghost use Rattle.std.specs.Option.{option_map};
 ghost use Rattle.bw_model.specs.Fault.{no_memory};
 ghost use Rattle.bw_model.specs.Limits.{most_rows};
 ghost use Rattle.bw_model.specs.Row.{Value, values_of};
-ghost use Rattle.bw_file.specs.AnySegment.{any_meaning};
 ghost use Rattle.bw_file.specs.Encoder.{Holds, encoder_layout, encoder_schema, rows_in};
 ghost use Rattle.bw_recode.specs.Recode.{IsReplacing, entry_of, replaced_at, replaced_row};
 ghost use Rattle.bw_recode.specs.Recode.{replacements_in};
 
 use crate::numbers::Replacement;
-use bw_file::{AnySegment, Encoder};
+use bw_file::Encoder;
 use bw_model::{Fault, Row, Schema, Value};
 use bw_segment::Segment;
 use std::alloc::Global;
 
 /// Adds the rows of a segment, with their values replaced, to a table.
-pub(crate) fn add_segment(
+pub(crate) fn add_segment<S: Segment>(
     alloc: Global,
-    segment: &AnySegment,
+    segment: &S,
     replacements: &[Replacement],
     encoder: &mut Encoder,
 ) -> Result<(), Fault>
-    requires replacing { IsReplacing (any_meaning segment.now).columns
+    requires replacing { IsReplacing (S.meaning segment.now).columns
         (encoder_schema encoder.old).columns.items (replacements_in replacements.now) }
-    requires capacity { rows_in encoder.old + length (any_meaning segment.now).rows ≤ most_rows }
+    requires capacity { rows_in encoder.old + length (S.meaning segment.now).rows ≤ most_rows }
     ensures holds { OnOk result ((rows : List (List Value)) → Holds encoder.old rows
-        → Holds encoder.new (rows ++ map (replaced_row (any_meaning segment.now).columns
-        (replacements_in replacements.now)) (any_meaning segment.now).rows)) }
+        → Holds encoder.new (rows ++ map (replaced_row (S.meaning segment.now).columns
+        (replacements_in replacements.now)) (S.meaning segment.now).rows)) }
     ensures rows { OnOk result (rows_in encoder.new
-        ≡ rows_in encoder.old + length (any_meaning segment.now).rows) }
+        ≡ rows_in encoder.old + length (S.meaning segment.now).rows) }
     ensures same { (encoder_layout encoder.new ≡ encoder_layout encoder.old)
         × (encoder_schema encoder.new ≡ encoder_schema encoder.old) }
     ensures only_oom { IsOkUnless result no_memory }
@@ -46,17 +45,17 @@ pub(crate) fn add_segment(
 }
 
 /// Writes a row of a segment, with its values replaced, into `row`.
-fn replace_values(
-    segment: &AnySegment,
+fn replace_values<S: Segment>(
+    segment: &S,
     replacements: &[Replacement],
     i: usize,
     row: &mut Row,
 ) -> Result<(), Fault>
-    requires row { i < length (any_meaning segment.now).rows }
-    requires columns { length replacements.now ≡ length (any_meaning segment.now).columns }
+    requires row { i < length (S.meaning segment.now).rows }
+    requires columns { length replacements.now ≡ length (S.meaning segment.now).columns }
     ensures row { OnOk result (values_of row.new
-        ≡ replaced_row (any_meaning segment.now).columns (replacements_in replacements.now)
-        (slice_index_or (any_meaning segment.now).rows i [])) }
+        ≡ replaced_row (S.meaning segment.now).columns (replacements_in replacements.now)
+        (slice_index_or (S.meaning segment.now).rows i [])) }
     ensures only_oom { IsOkUnless result no_memory }
 {
     row.values.clear();

@@ -4,3 +4,4 @@ mod NoteLemmas
 mod ReadingLemmas
 mod SessionLemmas
 mod WriteLemmas
+pub mod LossLemmas

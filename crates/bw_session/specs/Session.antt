@@ -1,5 +1,5 @@
 -- What a session writes for each statement: its result and an LF, an LF, or nothing.
-use Rattle.std.specs.Prelude.{◌≡◌, ℕ, ◌+◌, true, false, List, [], ◌∷◌, ◌++◌, length, take, ◌≤◌}
+use Rattle.std.specs.Prelude.{◌≡◌, ℕ, ◌+◌, Bool, true, false, List, [], ◌∷◌, ◌++◌, length, take, ◌≤◌}
 use Rattle.std.specs.Prelude.{◌<◌, ◌⊎◌, IsTrue, if◌then◌else◌, Option, Some, None, Result, Ok, Err}
 use Rattle.std.specs.Io.KnownBytes.{Appends, Consumes, IsAtEnd}
 use Rattle.bw_model.specs.declared.fault.Fault.{Fault}
@@ -114,6 +114,17 @@ abbrev pub first_of : Option Fault → Option Fault → Option Fault
 first_of None other = other
 first_of (Some fault) None = Some fault
 first_of (Some fault) (Some other) = Some (if is_memory other then other else fault)
+
+-- an error that is a failed read needs that the columns are lost
+abbrev pub NeedsLoss : Bool → Option Fault → Type 0
+NeedsLoss lost None = Unit {0}
+NeedsLoss lost (Some fault) = IsTrue (is_read_fault fault) → lost ≡ true
+
+-- and that they were lost at the beginning, or that more calls of their device have failed since
+abbrev pub TellsLoss : Bool → ℕ → ℕ → Option Fault → Type 0
+TellsLoss lost before after None = Unit {0}
+TellsLoss lost before after (Some fault) = IsTrue (is_read_fault fault)
+    → (lost ≡ true) ⊎ (before < after)
 
 -- A text is statements, one after another, each with what ends it. This is the error that
 -- `first_of` chooses of theirs, what they write, one after another, and what is told of them.

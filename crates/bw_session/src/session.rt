@@ -1,12 +1,13 @@
 //! Runs a session: the statements of a source, one after another.
-ghost use Rattle.std.specs.Prelude.{◌≡◌, ◌-◌, ◌^◌, ◌<◌, ◌≤◌, ◌↔◌, IsTrue, [], length};
+ghost use Rattle.std.specs.Prelude.{◌≡◌, ◌-◌, ◌^◌, ◌<◌, ◌≤◌, ◌↔◌, IfOk, IsTrue, [], false, length};
+ghost use Rattle.std.specs.Prelude.{true};
 ghost use Rattle.bw_model.specs.Fault.{is_memory};
 ghost use Rattle.bw_io.specs.Sink.{is_write_fault};
 ghost use Rattle.bw_memory.specs.MemoryTable.{schema_of};
 ghost use Rattle.bw_query.specs.ProgramCache.{Serves, files_of};
 ghost use Rattle.bw_session.specs.Session.{Answers, AnswersOne, AsksNothing, EndsLine, first_of};
 ghost use Rattle.bw_session.specs.Note.{Hears};
-ghost use Rattle.bw_session.specs.Session.{session_table};
+ghost use Rattle.bw_session.specs.Session.{NeedsLoss, TellsLoss, session_table};
 
 use crate::listener::Listener;
 use crate::reading::{MAX_LEN, next_statement};
@@ -23,11 +24,12 @@ use std::alloc::Global;
 /// text of its meaning over the rows and an LF; an LF alone if it is rejected; nothing if it has
 /// only spaces, tabs, line ends and comments. Each result is written before the next statement is
 /// read. Returns the error of the first rejected statement, if there is one; if memory was refused
-/// to any statement, it returns that error (801).
+/// to any statement, it returns that error (801). It is a failed read (701) only if a call of the
+/// columns' device failed, in this session or before.
 ///
 /// Each statement is run by [`answer_with_programs`], whose errors (401 to 408, 306 to 308, 305, 701
-/// and 801) don't end the session. The listener is told of each statement that isn't empty: before its LF is written, how
-/// it was served, or its text (the first 65,537 bytes) and its error. The session ends early by a
+/// and 801) don't end the session. The listener is told of each statement that isn't empty: before
+/// its LF is written, how it was served, or its text (the first 65,537 bytes) and its error. The session ends early by a
 /// failed read (701) or write (702), and if there is no memory for a statement's text (801). The
 /// programs must serve the table's columns, and the counts of errors of the source and of the sink
 /// must be able to rise.
@@ -42,9 +44,12 @@ pub fn answer_statements<C: ColumnStore, S: Source, K: Sink, L: Listener>(
     requires serves { Serves (schema_of (C.table store.old)).columns.items programs.old }
     requires input { (S.state input.old).failures < 2 ^ 64 - 1 }
     requires sink { (K.state sink.old).failures < 2 ^ 64 - 1 }
-    ensures { Answers (session_table (files_of programs.old) (schema_of (C.table store.old))
-        (C.source store.old)) (S.state input.old) (S.state input.new) (K.state sink.old)
-        (K.state sink.new) (L.told listener.old) (L.told listener.new) result }
+    ensures answers { Answers (session_table (files_of programs.old)
+        (schema_of (C.table store.old)) (C.source store.old)) (S.state input.old)
+        (S.state input.new) (K.state sink.old) (K.state sink.new) (L.told listener.old)
+        (L.told listener.new) result }
+    ensures lost { IfOk result (TellsLoss (C.is_lost store.old) (C.failures store.old)
+        (C.failures store.new)) }
 {
     let mut statement = Vec::new(alloc);
     let mut first = None;
@@ -88,12 +93,16 @@ fn answer_one<C: ColumnStore, K: Sink, L: Listener>(
     requires sink { (K.state sink.old).failures < 2 ^ 64 - 1 }
     requires stored { length sql.now ≤ 65537 }
     ensures answers { AnswersOne (session_table (files_of programs.old)
-        (schema_of (C.table store.old)) (C.source store.old)) sql.now (K.state sink.old) (K.state sink.new) (L.told listener.old)
-        (L.told listener.new) result }
+        (schema_of (C.table store.old)) (C.source store.old)) sql.now (K.state sink.old)
+        (K.state sink.new) (L.told listener.old) (L.told listener.new) result }
     ensures serves { Serves (schema_of (C.table store.new)).columns.items programs.new }
     ensures files { files_of programs.new ≡ files_of programs.old }
     ensures source { C.source store.new ≡ C.source store.old }
     ensures schema { schema_of (C.table store.new) ≡ schema_of (C.table store.old) }
+    ensures lost { IfOk result (NeedsLoss (C.is_lost store.new)) }
+    ensures failed { C.is_lost store.old ≡ false → C.is_lost store.new ≡ true
+        → C.failures store.old < C.failures store.new }
+    ensures count { C.failures store.old ≤ C.failures store.new }
 {
     if asks_nothing(sql) {
         return Ok(None);

@@ -5,7 +5,7 @@
 //! - over a CSV text: [`load`], [`load_in_order`], [`direct`]
 //! - over a table file: [`answer`], [`dump`]
 //! - over a file by columns: [`answer_by_columns`], [`dump_by_columns`]
-//! - over a table file, to another one: [`recode`]
+//! - over a table file, to another one: [`recode`]; over a file by columns: [`recode_by_columns`]
 //! - over a table that is read once, for many statements: [`MemoryTable`], [`answer_in_memory`],
 //! [`ProgramCache`], [`answer_with_programs`], [`answer_statements`]
 //! - to write a schema text: [`infer`], [`info`], [`info_by_columns`]
@@ -36,7 +36,7 @@ pub use bw_query::{
     ProgramCache, RejectedFile, answer, answer_by_columns, answer_in_memory, answer_with_programs,
     dump, dump_by_columns,
 };
-pub use bw_recode::recode;
+pub use bw_recode::{recode, recode_by_columns};
 pub use bw_report::{By, Served, accepted_line, report, stats_line};
 pub use bw_session::{Listener, answer_statements};
 pub use certify_call::certify_text;
