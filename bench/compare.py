@@ -3,9 +3,9 @@
 First bw is compared with bench/tuned.c, C that is tuned by hand and validates each block as bw
 does: over table files, and over files by columns, of which both read the columns that a question
 needs. Damaged files show that both reject the same ones, with the same error at the same byte.
-Then one question is asked of 32 columns and of one. With --only-tuned that is all. Then follow
-plain C (bench/query.c), sqlite3 and mawk, and a load in
-each layout beside sqlite3's import, timed once. --sorted compares with plain C over rows sorted by
+A session's first answer is compared with C that stores the columns first. Then one question is
+asked of 32 columns and of one. With --only-tuned that is all. Then follow plain C (bench/query.c),
+sqlite3 and mawk, and a load in each layout beside sqlite3's import, timed once. --sorted compares with plain C over rows sorted by
 the column of each condition, which a program can skip more of."""
 from __future__ import annotations
 
@@ -18,7 +18,7 @@ from typing import Dict, Iterator, List, Optional, Sequence, Tuple
 
 from data import (LAYOUTS, QUESTIONS, WIDE_ROWS, Question, bw_program, compiled, database_of,
                   four_columns, schema_file, table_files, tables_of_rows, wide_tables)
-from timing import TOP, Words, agree, least, run, run_in_turn, show
+from timing import TOP, Run, Words, agree, least, run, run_in_turn, show
 
 RUNS, ROWS = 15, 10_000_000
 ENGINES = ["bw, planes", "bw, slices", "C, planes", "C, slices", "sqlite3", "mawk over CSV"]
@@ -151,6 +151,12 @@ def compare_tuned(bw: str, folder: pathlib.Path, rows: int, runs: int) -> None:
              ["Question", *(head for layout in LAYOUTS
                             for head in (f"bw, {layout}", "tuned C", "bw / tuned C"))],
              (beside_tuned(bw, tuned, tables, question, runs) for question in QUESTIONS))
+        if order == "by columns":
+            show(f"A session's first answer over files by columns beside tuned C that keeps the "
+                 f"columns, ms, {rows:,} rows; minimum of {runs}",
+                 ["Question", *(head for layout in LAYOUTS
+                                for head in (f"bw session, {layout}", "tuned C", "bw / tuned C"))],
+                 (first_beside_tuned(bw, tuned, tables, question, runs) for question in QUESTIONS))
     show_widths(bw, folder, runs)
 
 
@@ -165,6 +171,23 @@ def beside_tuned(bw: str, tuned: pathlib.Path, tables: Dict[str, pathlib.Path],
     for layout in LAYOUTS:
         ours, theirs = (found[f"{number} {layout}"].wall for number in (0, 1))
         cells += [f"{ours:.1f}", f"{theirs:.1f}", f"{ours / theirs:.2f}"]
+    return cells
+
+
+def first_beside_tuned(bw: str, tuned: pathlib.Path, tables: Dict[str, pathlib.Path],
+                       question: Question, runs: int) -> Sequence[str]:
+    """Returns the line of a question that is the only one of a session."""
+    cells, asked = [question.shown], tables[LAYOUTS[0]].with_name("asked.sql")
+    asked.write_text(f"SELECT {question.asked};\n", encoding="ascii")
+    for layout in LAYOUTS:
+        ours: Optional[Run] = None
+        theirs: Optional[Run] = None
+        for _ in range(runs):
+            ours = run([bw, "session", tables[layout]], source=asked).best(ours)
+            theirs = run([tuned, question.name, tables[layout], "--keep"]).best(theirs)
+        assert ours and theirs
+        agree(question.asked, [ours.text, theirs.text])
+        cells += [f"{ours.wall:.1f}", f"{theirs.wall:.1f}", f"{ours.wall / theirs.wall:.2f}"]
     return cells
 
 

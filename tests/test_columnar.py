@@ -312,24 +312,53 @@ class Damage(Loaded):
 
 
 class Others(Loaded):
-    """Commands that read table files only, and files that have no places."""
+    """Recoded files, and files that have no places."""
 
     def test_recode(self) -> None:
+        """The first error is that of the schema, the header and the length, the text of numbers,
+        and then the columns, in this order; nothing is written."""
         _, path = self.load(600, "planes")
+        whole, file = path.read_bytes(), File(path.read_bytes())
         numbers, out = self.folder / "numbers", self.folder / "out.bw"
-        numbers.write_text("KEEP\n" * len(COLUMNS), encoding="ascii")
-        words = ("recode", path, self.folder / "t.schema", numbers, out)
-        self.assertEqual(bw(*words), (3, "", "bw: 301 magic at byte 0\n"))
-        self.assertFalse(out.exists())
-        self.assertIn(f"{path} seems to be a file by columns: expected a table file: bw recode",
-                      bw("--explain", *words).err)
+        schema = self.folder / "t.schema"
+        good, text = schema.read_text(encoding="ascii"), "KEEP\n" * len(COLUMNS)
+        damaged = bytearray(whole)
+        for column in (2, 1):
+            place = file.place(column, 1) + file.sizes[column] - 1
+            damaged[place] |= 128
+        for spelled, data, said, error in (
+                ("TABLE", whole[:-1], "", "101 syntax at line 1"),
+                (good, whole[:-1], "", f"305 truncated at byte {len(whole) - 1}"),
+                (good, whole + b"x", "", f"309 bytes after the end at byte {len(whole)}"),
+                (good, bytes(damaged), text + "KEEP\n",
+                 f"203 record length at line {len(COLUMNS) + 1}"),
+                (good, bytes(damaged), text, outcome(bytes(damaged), "SELECT * FROM t")[4:].removesuffix(" (status 3)"))):
+            schema.write_text(spelled, encoding="ascii")
+            path.write_bytes(data)
+            numbers.write_text(said, encoding="ascii")
+            with self.subTest(error):
+                self.assertEqual(bw("recode", path, schema, numbers, out),
+                                 (3, "", f"bw: {error}\n"))
+                self.assertFalse(out.exists())
 
     def test_pipes(self) -> None:
         _, path = self.load(3, "planes")
         for words in (f"query /dev/stdin '{COUNT}'", "dump /dev/stdin", "info /dev/stdin"):
             done = support.sh(f"cat {path.name} | '{support.BW}' {words}", self.folder)
+            self.assertEqual((done.status, done.out, done.err), (5, "", "bw: 701 read failed\n"))
+        told = support.sh(f"cat {path.name} | '{support.BW}' --explain dump /dev/stdin", self.folder)
+        self.assertIn("/dev/stdin is a pipe; a file by columns is read at places", told.err)
+
+    def test_pipes_of_other_files(self) -> None:
+        """A pipe of a table file is read from its first byte on, one of few bytes too."""
+        by_rows, _ = self.load(1500, "slices")
+        done = support.sh(f"cat {by_rows.name} | '{support.BW}' dump /dev/stdin", self.folder)
+        self.assertEqual(done, bw("dump", by_rows))
+        for count in range(10):
+            done = support.sh(f"head -c {count} {by_rows.name} | '{support.BW}' info /dev/stdin",
+                              self.folder)
             self.assertEqual((done.status, done.out), (3, ""))
-            self.assertEqual(done.err, "bw: 301 magic at byte 0\n")
+            self.assertEqual(done.err, f"bw: 305 truncated at byte {count}\n")
 
     def test_standard_input(self) -> None:
         """A file that is standard input has places."""
@@ -350,10 +379,12 @@ class Others(Loaded):
 class Reading(Loaded):
     """A query reads the header, and the columns that it needs."""
 
-    def read_by(self, *words: object) -> int:
+    def read_by(self, *words: object, given: str = "", status: int = 0) -> int:
         """Returns how many bytes a call of bw read, as the system counts them."""
-        with tempfile.TemporaryFile() as out:
-            process = subprocess.Popen([support.BW, *map(str, words)], stdin=subprocess.DEVNULL,
+        with tempfile.TemporaryFile() as out, tempfile.TemporaryFile() as source:
+            source.write(given.encode())
+            source.seek(0)
+            process = subprocess.Popen([support.BW, *map(str, words)], stdin=source,
                                        stdout=out, stderr=out)
             os.waitid(os.P_PID, process.pid, os.WEXITED | os.WNOWAIT)
             try:
@@ -362,7 +393,7 @@ class Reading(Loaded):
                 self.skipTest("bytes that are read: needs /proc/PID/io")
             finally:
                 process.wait()
-            self.assertEqual(process.returncode, 0)
+            self.assertEqual(process.returncode, status)
         return int(counts.split()[1])
 
     def test_bytes_read(self) -> None:
@@ -382,6 +413,20 @@ class Reading(Loaded):
                                        delta=NOISE)
         self.assertAlmostEqual(self.read_by("dump", path) - header, file.end - file.at, delta=NOISE)
         self.assertLessEqual(self.read_by("info", path), header + NOISE)
+
+    def test_sessions(self) -> None:
+        """A session reads a column once, a damaged one too."""
+        _, path = self.load(5000, "planes")
+        whole, file = bytearray(path.read_bytes()), File(path.read_bytes())
+        size = file.sizes[NAMES.index("z")] * file.segments
+        for damage, status in ((0, 0), (128, 3)):
+            whole[file.place(NAMES.index("z"), file.segments - 1) + 127] |= damage
+            path.write_bytes(whole)
+            none, one, many = (self.read_by("session", path, given=COUNT + given, status=state)
+                               for given, state in (("", 0), (";SELECT MAX(z) FROM t", status),
+                                                    (";SELECT MAX(z) FROM t" * 9, status)))
+            self.assertAlmostEqual(one - none, size, delta=NOISE)
+            self.assertAlmostEqual(many, one, delta=NOISE)
 
 
 class Changing(Loaded):

@@ -86,12 +86,18 @@ class Recoded(TestCase):
         for each, text in files.items():
             (folder / each).write_text(text, encoding="ascii")
         layout = draw.choice(["planes", "slices"])
-        for words in (["load", "--layout", layout, "old.schema", "old.csv", "old.bw"],
-                      ["recode", "old.bw", "new.schema", "numbers", "new.bw"]):
+        orders = [[], ["--columnar"]]
+        for order, name in zip(orders, ("old.bw", "old.columns")):
+            words = ["load", *order, "--layout", layout, "old.schema", "old.csv", name]
+            self.assertEqual(bw(*words, cwd=folder), (0, "", ""))
+        order = draw.choice(orders)
+        for old, new in (("old.bw", "new.bw"), ("old.columns", "other.bw")):
+            words = ["recode", *order, old, "new.schema", "numbers", new]
             self.assertEqual(bw(*words, cwd=folder), (0, "", ""))
         wanted = [[column.replaced(value) for column, value in zip(columns, row)] for row in rows]
         text = csv_text(wanted, len(columns))
         self.assertEqual(bw("dump", "new.bw", cwd=folder), (0, text, ""))
         (folder / "new.csv").write_text(text, encoding="ascii")
-        bw("load", "--layout", layout, "new.schema", "new.csv", "loaded.bw", cwd=folder)
-        self.assertEqual((folder / "new.bw").read_bytes(), (folder / "loaded.bw").read_bytes())
+        bw("load", *order, "--layout", layout, "new.schema", "new.csv", "loaded.bw", cwd=folder)
+        for each in ("new.bw", "other.bw"):
+            self.assertEqual((folder / each).read_bytes(), (folder / "loaded.bw").read_bytes())

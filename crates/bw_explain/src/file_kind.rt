@@ -2,7 +2,7 @@
 use crate::explanation::Inputs;
 use crate::program_file::first_word;
 use crate::text::{Text, put};
-use bw_model::{Fault, Place, code};
+use bw_model::{Fault, Place};
 use bw_text::{Lines, Opcode, is_same_text};
 
 /// So many first bytes show what a file seems to be.
@@ -30,7 +30,7 @@ pub(crate) fn put_kind(text: &mut Text, fault: &Fault, inputs: &Inputs<'_>) -> b
         _ => return false,
     };
     let kind = kind_of(inputs.file.get(..BEGINNING).unwrap_or(inputs.file)).unwrap_or(wanted);
-    if kind == wanted || kind == COLUMNAR && wanted == TABLE && fault.code != code::MAGIC {
+    if kind == wanted || kind == COLUMNAR && wanted == TABLE {
         return false;
     }
     put!(text; "seems to be ", kind, ": expected ", wanted, ": ", inputs.usage, "\n");
