@@ -69,12 +69,6 @@ impl<'a> Code<'a> {
         self.set(register, Instr::Fill(register, bit))
     }
 
-    /// Returns a register with the same lanes as another.
-    pub(crate) fn copy(&mut self, register: Register) -> Made {
-        let copy = self.claim()?;
-        self.set(copy, Instr::Or(copy, register, register))
-    }
-
     /// Returns a register that holds this: by instructions, unless one does already.
     pub(crate) fn compute(&mut self, content: Content) -> Made {
         self.meet();

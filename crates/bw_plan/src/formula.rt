@@ -53,15 +53,62 @@ impl FormulaReader<'_> {
             Cond::IsNull(x) => Ok(self.null_test(*x)),
             Cond::And(parts) => self.join(Junction::All, parts),
             Cond::Or(parts) => self.join(Junction::Any, parts),
-            Cond::Not(part) => match self.part_of(part)? {
-                Formula::Codes(set) => Ok(Formula::Codes(set.inverse())),
-                part => Ok(Formula::Not(Box::new(self.alloc, part)?)),
-            },
+            Cond::Not(part) => {
+                let part = self.part_of(part)?;
+                self.opposite(part)
+            }
             Cond::Test(part, truth) => {
                 let part = self.part_of(part)?;
-                Ok(Formula::Test(Box::new(self.alloc, part)?, *truth))
+                self.truth_test(part, *truth)
             }
         }
+    }
+
+    /// Returns the opposite of a part.
+    fn opposite(&self, part: Formula) -> FormulaResult {
+        match part {
+            Formula::Codes(set) => Ok(Formula::Codes(set.inverse())),
+            Formula::Columns(compared) => Ok(Formula::Columns(ColumnComparison {
+                negated: !compared.negated,
+                ..compared
+            })),
+            part => Ok(Formula::Not(Box::new(self.alloc, part)?).simplified(self.schema)),
+        }
+    }
+
+    /// Returns whether a part has a truth. A comparison is UNKNOWN if one of its columns is null,
+    /// and a part that is never UNKNOWN is TRUE or FALSE.
+    fn truth_test(&self, part: Formula, truth: Truth) -> FormulaResult {
+        let columns = match &part {
+            Formula::Codes(set) => Some([usize::from(set.column); 2]),
+            Formula::Columns(compared) => Some([compared.left, compared.right]),
+            _ => None,
+        };
+        if let Some(columns) = columns
+            && truth == Truth::Unknown
+        {
+            return self.any_null(columns);
+        }
+        let is_known = !part.possible(self.schema).unknown;
+        if is_known && truth == Truth::Yes {
+            return Ok(part);
+        }
+        if is_known && truth == Truth::No {
+            return self.opposite(part);
+        }
+        let tested = Formula::Test(Box::new(self.alloc, part)?, truth);
+        Ok(tested.simplified(self.schema))
+    }
+
+    /// Returns whether one of two columns, which may be the same, is null.
+    fn any_null(&self, columns: [usize; 2]) -> FormulaResult {
+        let [left, right] = columns;
+        let mut parts = JoinedParts::new(self.alloc, Junction::Any);
+        parts.add(self.alloc, self.null_test(Operand::Col(left)))?;
+        if left != right {
+            parts.add(self.alloc, self.null_test(Operand::Col(right)))?;
+        }
+        parts.formula(self.schema)
     }
 
     /// Returns joined conditions. A condition is left out if it is the same as the one before.
@@ -75,7 +122,7 @@ impl FormulaReader<'_> {
             }
             before = Some(cond);
         }
-        parts.formula()
+        parts.formula(self.schema)
     }
 
     /// Returns `BETWEEN`.
@@ -83,7 +130,7 @@ impl FormulaReader<'_> {
         let mut parts = JoinedParts::new(self.alloc, Junction::All);
         parts.add(self.alloc, self.comparison(Op::Ge, x, y)?)?;
         parts.add(self.alloc, self.comparison(Op::Le, x, z)?)?;
-        parts.formula()
+        parts.formula(self.schema)
     }
 
     /// Returns `IN`: first the set of the literals, however long it is, and then the other items.
@@ -99,7 +146,7 @@ impl FormulaReader<'_> {
                 }
             }
         }
-        parts.formula()
+        parts.formula(self.schema)
     }
 
     /// Returns `IS NULL`.
@@ -166,9 +213,12 @@ impl JoinedParts {
         Ok(())
     }
 
-    /// Returns the parts as one: first a part of many levels, if there is one, since each level
-    /// keeps a register.
-    fn formula(mut self) -> FormulaResult {
+    /// Returns the parts as one, without those that change nothing: first a part of many levels, if
+    /// there is one, since each level keeps a register.
+    fn formula(mut self, schema: &Schema) -> FormulaResult {
+        let neutral = Truth::of(self.junction == Junction::All);
+        self.parts
+            .retain(|part| part.possible(schema).only() != Some(neutral));
         let deep = self
             .parts
             .iter()
@@ -177,13 +227,38 @@ impl JoinedParts {
             self.parts.swap(0, deep);
         }
         if self.parts.len() > 1 {
-            return Ok(Formula::Joined(self.junction, self.parts, self.levels));
+            let whole = Formula::Joined(self.junction, self.parts, self.levels);
+            return Ok(whole.simplified(schema));
         }
-        self.parts.pop().ok_or(Unplanned::Limit)
+        Ok(self.parts.pop().unwrap_or(Formula::Fixed(neutral)))
     }
 }
 
 impl Formula {
+    /// Returns the only truth that it may have, or else itself.
+    pub(crate) fn simplified(self, schema: &Schema) -> Formula {
+        match self.possible(schema).only() {
+            Some(truth) => Formula::Fixed(truth),
+            None => self,
+        }
+    }
+
+    /// Returns whether it tests for a set of codes that takes many instructions.
+    pub(crate) fn has_long_set(&self) -> bool {
+        match self {
+            Formula::Codes(set) => set.is_long(),
+            Formula::Test(part, _) | Formula::Not(part) => part.has_long_set(),
+            Formula::Joined(_, parts, _) => {
+                let mut is_long = false;
+                for part in parts {
+                    is_long |= part.has_long_set();
+                }
+                is_long
+            }
+            _ => false,
+        }
+    }
+
     /// Returns how many levels of parts it has.
     fn levels(&self) -> usize {
         match self {

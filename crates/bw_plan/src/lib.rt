@@ -26,6 +26,7 @@ mod formula;
 mod limits;
 mod plan;
 mod planner;
+mod possible;
 mod registers;
 mod relations;
 mod select;

@@ -10,8 +10,6 @@ pub(crate) struct Plan {
     pub(crate) between_parts: bool,
     /// How many top bits of two columns are compared from the top down, if there are skips.
     top_bits: u32,
-    /// How many product rows the condition's own lines take.
-    pub(crate) rows: u32,
 }
 
 impl Plan {
@@ -23,7 +21,6 @@ impl Plan {
             skips: rows < MAX_ROWS_TO_SKIP,
             between_parts: rows < MAX_ROWS_TO_SKIP_PARTS,
             top_bits: each.isqrt().min(63) as u32,
-            rows,
         }
     }
 

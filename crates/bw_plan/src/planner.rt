@@ -9,7 +9,7 @@ ghost use Rattle.bw_plan.specs.Refusal.{IsRefusal};
 
 use crate::code::Code;
 use crate::formula::{Formula, FormulaReader};
-use crate::limits::{FORECAST_FROM, MAX_CONDITION_ROWS, MAX_ROWS};
+use crate::limits::{FORECAST_FROM, MAX_CONDITION_ROWS, MAX_LIST_ROWS, MAX_ROWS};
 use crate::plan::Plan;
 use crate::unplanned::Unplanned;
 use bw_cert_text::Certificate;
@@ -91,15 +91,21 @@ fn try_plans<'a>(
         relations: 0,
     };
     let part = reader.part_of(order)?;
+    let has_long_set = part.has_long_set();
     let mut tried: Option<Plan> = None;
     for _ in 0..3 {
         let prover = Prover::new(alloc, schema, cond, MAX_CONDITION_ROWS, FORECAST_FROM)?;
+        if has_long_set && prover.rows() > MAX_LIST_ROWS {
+            return Err(Unplanned::Limit);
+        }
         let plan = match tried {
             None => Plan::new(reader.relations, prover.rows()),
             Some(last) => last.with_fewer_skips(),
         };
         match proposal_by(alloc, schema, prover, &part, plan) {
-            Err(Unplanned::Length | Unplanned::Uncertified) if plan.skips => tried = Some(plan),
+            Err(Unplanned::Length | Unplanned::Limit | Unplanned::Uncertified) if plan.skips => {
+                tried = Some(plan);
+            }
             made => return made,
         }
     }

@@ -1,6 +1,6 @@
 //! Instructions that compare a column's codes with numbers, from the most significant byte down.
 use crate::code::{Code, Made};
-use crate::limits::{MAX_LIST_ROWS, SKIPPED_BYTES};
+use crate::limits::SKIPPED_BYTES;
 use crate::registers::Content;
 use crate::sets::{Set, bounds_below, byte_of};
 use crate::unplanned::Unplanned;
@@ -19,11 +19,8 @@ struct Search<'s> {
 
 impl Code<'_> {
     /// Returns a register that is 1 where a column's code has an odd number of a set's bounds above
-    /// it. Refuses a long list whose product rows are many.
+    /// it.
     pub(crate) fn codes(&mut self, set: &Set) -> Made {
-        if set.is_long() && self.plan.rows > MAX_LIST_ROWS {
-            return Err(Unplanned::Limit);
-        }
         let search = Search {
             set,
             slice: set.top,

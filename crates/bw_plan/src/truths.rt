@@ -23,7 +23,7 @@ impl Code<'_> {
     /// Returns the register of where a whole condition is TRUE.
     pub(crate) fn whole(&mut self, part: &Formula) -> Made {
         let made = self.truths(part, TruthPair::of(true, false))?;
-        let answer = made.yes.ok_or(Unplanned::Limit)?;
+        let answer = self.or_none(made.yes)?;
         if self.skips.count == 0 {
             // A skip at the end lets counts show empty segments.
             self.skip(answer)?;
@@ -37,13 +37,22 @@ impl Code<'_> {
         Ok(answer)
     }
 
-    /// Returns the registers of a part of the condition.
+    /// Returns the registers of a part of the condition, without that of a truth that it never has.
     #[cycle(truths)]
     fn truths(&mut self, part: &Formula, wanted: WantedTruths) -> MadeTruths {
+        let possible = part.possible(self.schema);
+        let wanted = TruthPair::of(wanted.yes && possible.yes, wanted.no && possible.no);
+        if !wanted.yes && !wanted.no {
+            return Ok(TruthPair::of(None, None));
+        }
         match part {
-            Formula::Fixed(truth) => self.constant(*truth, wanted),
+            Formula::Fixed(_) => self.everywhere(None, wanted),
+            Formula::Codes(set) if set.bounds.is_empty() => {
+                self.everywhere(Some(set.column), wanted)
+            }
             Formula::Codes(set) => self.in_set(set, wanted),
             Formula::Columns(compared) => self.compare_columns(*compared, wanted),
+            Formula::Null(column) if !wanted.yes => { self.everywhere(Some(*column), wanted) }
             Formula::Null(column) => {
                 let nulls = self.compute(Content::Nulls(*column))?;
                 self.sides(nulls, &[], wanted)
@@ -74,13 +83,11 @@ impl Code<'_> {
     ) -> MadeTruths {
         let is_any = junction == Junction::Any;
         let open = self.open_skips();
-        let (first, others) = parts.split_first().ok_or(Unplanned::Limit)?;
-        let made = self.truths(first, wanted)?.opposite_if(is_any);
-        for (number, part) in others.iter().enumerate() {
-            // These take two or three instructions, so that a skip saves nothing.
-            let is_quick = matches!(part, Formula::Null(_) | Formula::Fixed(_));
-            if number < SKIPPED_PARTS && self.plan.between_parts && !is_quick {
-                self.skip_if_settled(made)?;
+        let mut made = TruthPair::of(None, None);
+        for (number, part) in parts.iter().enumerate() {
+            let has_skip = number <= SKIPPED_PARTS && self.plan.between_parts;
+            if has_skip && !is_quick(part) {
+                self.skip_if_settled(made, wanted.opposite_if(is_any))?;
             }
             let next = self.truths(part, wanted)?.opposite_if(is_any);
             if let (Some(to), Some(other)) = (made.yes, next.yes) {
@@ -89,41 +96,56 @@ impl Code<'_> {
             if let (Some(to), Some(other)) = (made.no, next.no) {
                 self.set_from(other, to, Instr::Or(to, to, other))?;
             }
+            made = TruthPair::of(made.yes.or(next.yes), made.no.or(next.no));
         }
         self.meet_from(open);
         Ok(made.opposite_if(is_any))
     }
 
     /// Skips to the end of an AND if its other parts can change nothing.
-    fn skip_if_settled(&mut self, made: TruthRegisters) -> Result<(), Unplanned> {
+    fn skip_if_settled(
+        &mut self,
+        made: TruthRegisters,
+        wanted: WantedTruths,
+    ) -> Result<(), Unplanned> {
         if let Some(excluded) = made.no {
             let left = self.claim()?;
             self.set(left, Instr::Not(left, excluded))?;
             self.skip(left)?;
             self.registers.release(left);
-        } else if let Some(selected) = made.yes {
+        } else if let Some(selected) = made.yes
+            && !wanted.no
+        {
             self.skip(selected)?;
         }
         Ok(())
     }
 
-    /// Returns the registers of one truth on every row.
-    fn constant(&mut self, truth: Truth, wanted: WantedTruths) -> MadeTruths {
-        let mut made = TruthPair::of(None, None);
-        if wanted.yes {
-            made.yes = Some(self.fill(truth == Truth::Yes)?);
+    /// Returns the register of the only wanted truth of a part, which has it where a column has a
+    /// value, or everywhere.
+    fn everywhere(&mut self, column: Option<ColumnIndex>, wanted: WantedTruths) -> MadeTruths {
+        let made = match column {
+            Some(column) if is_nullable(self.schema, column) => {
+                self.compute(Content::Values(column))?
+            }
+            _ => self.fill(true)?,
+        };
+        Ok(TruthPair::of(wanted.yes.then_some(made), wanted.no.then_some(made)))
+    }
+
+    /// Returns a register, or, if there is none, one that is 0 in every lane.
+    fn or_none(&mut self, made: Option<Register>) -> Made {
+        match made {
+            Some(register) => Ok(register),
+            None => self.fill(false),
         }
-        if wanted.no {
-            made.no = Some(self.fill(truth == Truth::No)?);
-        }
-        Ok(made)
     }
 
     /// Returns a register that is 1 where one of a part's registers is.
     fn either(&mut self, made: TruthRegisters) -> Made {
         match (made.yes, made.no) {
             (Some(yes), Some(no)) => self.set_from(no, yes, Instr::Or(yes, yes, no)),
-            (yes, no) => yes.or(no).ok_or(Unplanned::Limit),
+            (yes, no) => self.or_none(yes.or(no)),
         }
     }
 
@@ -164,28 +186,47 @@ impl Code<'_> {
         columns: &[ColumnIndex],
         wanted: WantedTruths,
     ) -> MadeTruths {
-        let mut made = TruthPair::of(None, None);
-        if wanted.no {
-            let other = if wanted.yes { self.copy(held)? } else { held };
-            for column in columns {
-                if is_nullable(self.schema, *column) {
+        if wanted.yes && wanted.no {
+            return self.both_sides(held, columns);
+        }
+        for column in columns {
+            if is_nullable(self.schema, *column) {
+                if wanted.yes {
+                    self.exclude_nulls(held, *column)?;
+                } else {
                     let nulls = self.compute(Content::Nulls(*column))?;
-                    self.set_from(nulls, other, Instr::Or(other, other, nulls))?;
+                    self.set_from(nulls, held, Instr::Or(held, held, nulls))?;
                 }
             }
-            made.no = Some(self.set(other, Instr::Not(other, other))?);
         }
         if wanted.yes {
-            for column in columns {
-                if is_nullable(self.schema, *column) {
-                    self.exclude_nulls(held, *column)?;
-                }
-            }
-            made.yes = Some(held);
-        } else if !wanted.no {
-            self.registers.release(held);
+            return Ok(TruthPair::of(Some(held), None));
         }
-        Ok(made)
+        let other = self.set(held, Instr::Not(held, held))?;
+        Ok(TruthPair::of(None, Some(other)))
+    }
+
+    /// Returns both registers that `sides` does.
+    fn both_sides(&mut self, held: Register, columns: &[ColumnIndex]) -> MadeTruths {
+        let mut nulls = None;
+        for column in columns {
+            if is_nullable(self.schema, *column) {
+                let more = self.compute(Content::Nulls(*column))?;
+                nulls = match nulls {
+                    Some(to) => Some(self.set_from(more, to, Instr::Or(to, to, more))?),
+                    None => Some(more),
+                };
+            }
+        }
+        let other = self.claim()?;
+        let Some(nulls) = nulls else {
+            self.set(other, Instr::Not(other, held))?;
+            return Ok(TruthPair::of(Some(held), Some(other)));
+        };
+        self.set(other, Instr::Or(other, held, nulls))?;
+        self.set_from(nulls, held, Instr::Xor(held, other, nulls))?;
+        self.set(other, Instr::Not(other, other))?;
+        Ok(TruthPair::of(Some(held), Some(other)))
     }
 
     /// Returns the registers that `sides` does. If the first alone is wanted, a skip omits each null
@@ -196,7 +237,7 @@ impl Code<'_> {
         columns: &[ColumnIndex],
         wanted: WantedTruths,
     ) -> MadeTruths {
-        if wanted.no || !wanted.yes {
+        if wanted.no {
             return self.sides(held, columns, wanted);
         }
         for column in columns {
@@ -213,6 +254,15 @@ impl Code<'_> {
         let values = self.compute(Content::Values(column))?;
         self.set_from(values, held, Instr::And(held, held, values))?;
         Ok(())
+    }
+}
+
+/// Returns whether a part takes two or three instructions, so that a skip saves nothing.
+fn is_quick(part: &Formula) -> bool {
+    match part {
+        Formula::Null(_) | Formula::Fixed(_) => true,
+        Formula::Codes(set) => set.bounds.is_empty(),
+        _ => false,
     }
 }
 
