@@ -58,7 +58,7 @@ fn assert_early(
 
 /// The text before and after a comparison: it alone, negated, tested, and combined with another one
 /// that doesn't settle it.
-const FORMS: [(&str, &str); 12] = [
+const FORMS: [(&str, &str); 11] = [
     ("", ""),
     ("NOT (", ")"),
     ("(", ") IS TRUE"),
@@ -70,7 +70,6 @@ const FORMS: [(&str, &str); 12] = [
     ("", " OR c > 9"),
     ("NOT (c < 9 AND ", ")"),
     ("NOT (", " OR c > 9)"),
-    ("(", ") IS NOT UNKNOWN AND c < 9"),
 ];
 
 #[test]
@@ -84,6 +83,21 @@ fn comparisons_of_columns_end_early(rt: HostRuntime) -> Result<(), Fail> {
                 let text = format!(in alloc; "{before}{x} {op} {y}{after}")?;
                 assert_early(&rt, &schema, text.as_str(), &rows, 8)?;
             }
+        }
+    }
+    Ok(())
+}
+
+#[test]
+fn tests_for_unknown_load_nulls_alone(rt: HostRuntime) -> Result<(), Fail> {
+    let alloc = rt.alloc();
+    let schema = Schema::parse(alloc, TEN_BITS.as_bytes())?;
+    let rows = alike(alloc, 600)?;
+    for (x, y) in PAIRS {
+        for op in COMPARISONS {
+            let text = format!(in alloc; "({x} {op} {y}) IS NOT UNKNOWN")?;
+            let cost = cost_of(&rt, alloc, &schema, text.as_str(), &rows)?;
+            assert!(rt; cost.loads <= 2, "{text}: {cost:?}");
         }
     }
     Ok(())
