@@ -1,0 +1,4 @@
+pub mod PossibleLemmas
+pub mod RowLemmas
+pub mod SetLemmas
+pub mod VerdictLemmas

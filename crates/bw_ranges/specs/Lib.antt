@@ -1,0 +1,4 @@
+pub mod ColumnRange
+pub mod PossibleTruths
+pub mod TruthSet
+pub mod Verdict
