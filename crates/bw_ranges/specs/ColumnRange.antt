@@ -1,6 +1,7 @@
 -- Ranges of a column's values, and what a comparison of values in them may be.
 use Rattle.std.specs.Prelude.{ℕ, ℤ, Bool, true, false, List, Some, None, IsTrue, slice_index_or}
 use Rattle.std.specs.Prelude.{int_le, int_lt, pos, ◌&&◌, ◌||◌}
+use Rattle.bw_model.specs.declared.column.Column.{Column}
 use Rattle.bw_model.specs.declared.cond.Op.{Op}
 use Rattle.bw_model.specs.declared.cond.Op.TheVariants.{Eq, Ne, Lt, Gt, Le, Ge}
 use Rattle.bw_model.specs.declared.cond.Operand.{Operand}
@@ -25,7 +26,15 @@ one_number n = record { least = n; greatest = n; has_nulls = false }
 abbrev pub only_null : ColumnRange
 only_null = record { least = pos 1; greatest = pos 0; has_nulls = true }
 
--- the range of a column; beyond the last column there is only null
+-- the range of the values that a column admits
+abbrev pub range_of_column : Column → ColumnRange
+range_of_column column = record {
+  least = column.lo;
+  greatest = column.hi;
+  has_nulls = column.nullable;
+}
+
+-- the range of the column of this number; beyond the last column there is only null
 abbrev pub range_in : List ColumnRange → ℕ → ColumnRange
 range_in ranges column = slice_index_or ranges column only_null
 

@@ -5,7 +5,7 @@ ghost use Rattle.bw_model.specs.Column.{admits_value};
 ghost use Rattle.bw_model.specs.Row.{Value};
 ghost use Rattle.bw_ranges.specs.ColumnRange.{compare_ranges, has_numbers, has_value, may_hold};
 ghost use Rattle.bw_ranges.specs.ColumnRange.{null_truths, one_number, only_null, opposite_op};
-ghost use Rattle.bw_ranges.specs.ColumnRange.{operand_range};
+ghost use Rattle.bw_ranges.specs.ColumnRange.{operand_range, range_of_column};
 
 use crate::truth_set::TruthSet;
 use bw_model::{Column, Op, Operand, Value};
@@ -23,7 +23,8 @@ pub struct ColumnRange {
 impl ColumnRange {
     /// Returns the range of what a column admits.
     pub fn of_column(column: &Column) -> Self
-        ensures { (value : Value) → has_value result value ≡ admits_value column.now value }
+        ensures range { result ≡ range_of_column column.now }
+        ensures values { (value : Value) → has_value result value ≡ admits_value column.now value }
     {
         ColumnRange {
             least: column.lo,

@@ -25,7 +25,7 @@ mod truths;
 mod verdict;
 
 pub use column_range::ColumnRange;
-pub use laws::rows_within_have_possible_truths;
+pub use laws::{admitted_rows_are_within, rows_within_have_possible_truths};
 pub use truth_set::TruthSet;
 pub use truths::possible_truths;
 pub use verdict::{Verdict, decide};
