@@ -218,7 +218,7 @@ impl JoinedParts {
     fn formula(mut self, schema: &Schema) -> FormulaResult {
         let neutral = Truth::of(self.junction == Junction::All);
         self.parts
-            .retain(|part| part.possible(schema).only() != Some(neutral));
+            .retain(|part| part.only_truth(schema) != Some(neutral));
         let deep = self
             .parts
             .iter()
@@ -237,7 +237,7 @@ impl JoinedParts {
 impl Formula {
     /// Returns the only truth that it may have, or else itself.
     pub(crate) fn simplified(self, schema: &Schema) -> Formula {
-        match self.possible(schema).only() {
+        match self.only_truth(schema) {
             Some(truth) => Formula::Fixed(truth),
             None => self,
         }
