@@ -5,8 +5,8 @@ does: over table files, and over files by columns, of which both read the column
 needs. Damaged files show that both reject the same ones, with the same error at the same byte.
 A session's first answer is compared with C that stores the columns first. Then one question is
 asked of 32 columns and of one. With --only-tuned that is all. Then follow plain C (bench/query.c),
-sqlite3 and mawk, and a load in each layout beside sqlite3's import, timed once. --sorted compares with plain C over rows sorted by
-the column of each condition, which a program can skip more of."""
+sqlite3 and mawk, and a load in each layout beside sqlite3's import, timed once. --sorted compares
+with plain C over rows sorted by the column of each condition, which a program can skip more of."""
 from __future__ import annotations
 
 import argparse

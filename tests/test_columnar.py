@@ -326,13 +326,14 @@ class Others(Loaded):
         for column in (2, 1):
             place = file.place(column, 1) + file.sizes[column] - 1
             damaged[place] |= 128
+        first = outcome(bytes(damaged), "SELECT * FROM t")
         for spelled, data, said, error in (
                 ("TABLE", whole[:-1], "", "101 syntax at line 1"),
                 (good, whole[:-1], "", f"305 truncated at byte {len(whole) - 1}"),
                 (good, whole + b"x", "", f"309 bytes after the end at byte {len(whole)}"),
                 (good, bytes(damaged), text + "KEEP\n",
                  f"203 record length at line {len(COLUMNS) + 1}"),
-                (good, bytes(damaged), text, outcome(bytes(damaged), "SELECT * FROM t")[4:].removesuffix(" (status 3)"))):
+                (good, bytes(damaged), text, first[4:].removesuffix(" (status 3)"))):
             schema.write_text(spelled, encoding="ascii")
             path.write_bytes(data)
             numbers.write_text(said, encoding="ascii")
@@ -346,7 +347,8 @@ class Others(Loaded):
         for words in (f"query /dev/stdin '{COUNT}'", "dump /dev/stdin", "info /dev/stdin"):
             done = support.sh(f"cat {path.name} | '{support.BW}' {words}", self.folder)
             self.assertEqual((done.status, done.out, done.err), (5, "", "bw: 701 read failed\n"))
-        told = support.sh(f"cat {path.name} | '{support.BW}' --explain dump /dev/stdin", self.folder)
+        words = f"'{support.BW}' --explain dump /dev/stdin"
+        told = support.sh(f"cat {path.name} | {words}", self.folder)
         self.assertIn("/dev/stdin is a pipe; a file by columns is read at places", told.err)
 
     def test_pipes_of_other_files(self) -> None:

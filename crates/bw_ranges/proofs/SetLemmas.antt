@@ -1,11 +1,11 @@
 -- AND, OR, NOT and IS of sets of truth values.
-use Rattle.std.proofs.Common.{◌≡◌, ◌∙◌, refl, sym, Bool, true, false, ◌&&◌, ◌||◌}
-use Rattle.std.proofs.lemmas.Bool.{and_from, or_left, or_right, true≢false}
+use Rattle.std.proofs.Common.{◌≡◌, refl, Bool, true, false, ◌&&◌, ◌||◌}
+use Rattle.std.proofs.lemmas.Bool.{and_from, or_left, or_right}
 use Rattle.bw_model.specs.declared.cond.Truth.{Truth}
 use Rattle.bw_model.specs.declared.cond.Truth.TheVariants.{No, Unknown, Yes}
 use Rattle.bw_model.specs.Truth.{greatest, is_truth, least, negation, truth_from}
 use Rattle.bw_ranges.specs.declared.truth_set.TruthSet.{TruthSet}
-use Rattle.bw_ranges.specs.TruthSet.{both, either, has_truth, one_truth, opposite, test}
+use Rattle.bw_ranges.specs.TruthSet.{both, either, has_truth, opposite, test}
 
 -- sets with the same truth values are the same
 same_set : (a b : TruthSet) → a.no ≡ b.no → a.unknown ≡ b.unknown → a.yes ≡ b.yes → a ≡ b
@@ -41,42 +41,6 @@ both_assoc a b c = same_set _ _ (or_assoc a.no b.no c.no) (unknown_assoc a.unkno
 
 pub either_assoc : (a b c : TruthSet) → either (either a b) c ≡ either a (either b c)
 either_assoc a b c = same_set _ _ (and_assoc a.no b.no c.no) (unknown_assoc a.unknown a.no b.unknown b.no c.unknown c.no) (or_assoc a.yes b.yes c.yes)
-
--- AND with TRUE alone changes nothing, nor does OR with FALSE alone
-or-false : (x : Bool) → (x || false) ≡ x
-or-false true = refl
-or-false false = refl
-
-and-true : (x : Bool) → (x && true) ≡ x
-and-true true = refl
-and-true false = refl
-
-unknown-alone : (u t : Bool) → (u && (false || true) || t && false) ≡ u
-unknown-alone true t = refl
-unknown-alone false true = refl
-unknown-alone false false = refl
-
-pub both-Yes : (a : TruthSet) → both a (one_truth Yes) ≡ a
-both-Yes a = same_set _ _ (or-false a.no) (unknown-alone a.unknown a.yes) (and-true a.yes)
-
-pub either-No : (a : TruthSet) → either a (one_truth No) ≡ a
-either-No a = same_set _ _ (and-true a.no) (unknown-alone a.unknown a.no) (or-false a.yes)
-
--- FALSE alone decides AND, and TRUE alone decides OR
-decided : (u t v s : Bool) → u ≡ false → t ≡ false → (u && (v || s) || t && v) ≡ false
-decided true t v s e f = absurd (true≢false e)
-decided false true v s e f = absurd (true≢false f)
-decided false false v s e f = refl
-
-and-false : (x y : Bool) → x ≡ false → (x && y) ≡ false
-and-false true y e = absurd (true≢false e)
-and-false false y e = refl
-
-pub both-No : (a b : TruthSet) → a.no ≡ true → a.unknown ≡ false → a.yes ≡ false → both a b ≡ a
-both-No a b is known can = same_set _ _ (or_left a.no b.no is ∙ sym is) (decided a.unknown a.yes b.unknown b.yes known can ∙ sym known) (and-false a.yes b.yes can ∙ sym can)
-
-pub either-Yes : (a b : TruthSet) → a.no ≡ false → a.unknown ≡ false → a.yes ≡ true → either a b ≡ a
-either-Yes a b can known is = same_set _ _ (and-false a.no b.no can ∙ sym can) (decided a.unknown a.no b.unknown b.no known can ∙ sym known) (or_left a.yes b.yes is ∙ sym is)
 
 -- AND, OR, NOT and IS of truth values in sets are in the sets that are made of these
 pub both_has : (a b : TruthSet) (s t : Truth) → has_truth a s ≡ true → has_truth b t ≡ true → has_truth (both a b) (least s t) ≡ true
