@@ -10,7 +10,6 @@ use Rattle.bw_file.specs.declared.layout.Layout.{Layout}
 use Rattle.bw_file.specs.declared.order.FileOrder.{FileOrder}
 use Rattle.bw_file.specs.declared.order.FileOrder.TheVariants.{ByRows}
 use Rattle.bw_file.specs.Columnar.{bytes_in_order}
-use Rattle.bw_file.specs.FileBytes.{file_bytes}
 use Rattle.bw_csv.specs.Input.{IsMadeAfter}
 use Rattle.bw_csv_calls.specs.ReadInputs.{IsSchemaFrom}
 
@@ -21,8 +20,7 @@ file_in order layout schema csv = rows_of schema.columns.items csv
 
 -- so it is for a table file
 abbrev pub file_of : Layout → Schema → List ℕ → Result (List ℕ) Fault
-file_of layout schema csv = rows_of schema.columns.items csv
-    >>= λ rows. Ok (file_bytes layout schema rows)
+file_of = file_in ByRows
 
 -- The file, or the first error in the order of the schema and the CSV. If the schema is rejected,
 -- the CSV isn't reached.

@@ -14,12 +14,12 @@ use Rattle.bw_io.specs.Sink.{SinkState, TookPart, WriteOutcome, beginning, every
 use Rattle.bw_io.specs.Sink.{is_write_fault, none_aside, nothing}
 use Rattle.bw_report.specs.declared.served.Served.{Served}
 use Rattle.bw_query.specs.StoreAnswer.{AnswersStore, IsStoreAnswer, StoreText}
-use Rattle.bw_query.specs.StoreAnswer.{HasColumnError as HasQueryError}
+use Rattle.bw_query.specs.StoreAnswer.{HasColumnError}
 use Rattle.bw_query.specs.TableAnswer.{by_statement}
 use Rattle.bw_sql.specs.Statement.{IsReadAs}
 use Rattle.bw_session.specs.Note.{Hears, Note, answered, rejected}
 use Rattle.bw_session.specs.Reading.{most_stored}
-use Rattle.bw_session.specs.Session.{AnswersOne, AsksNothing, EndsLine, HasColumnError, IsOutput, IsTold}
+use Rattle.bw_session.specs.Session.{AnswersOne, AsksNothing, EndsLine, IsOutput, IsTold}
 use Rattle.bw_session.specs.Session.{SessionTable, TookRest, answer, nothing as none, refusal}
 use Rattle.bw_session.specs.Session.{told_answer, told_nothing, told_refusal}
 use Rattle.bw_session.proofs.NoteLemmas.{Hears-nil}
@@ -57,10 +57,10 @@ statement_fault schema sql fault (inr program) = absurd program.refused
 
 -- or that of a column that it names
 rejection : (table : SessionTable) (sql : List ℕ) (fault : Fault)
-    → by_statement None sql table.schema (Err fault) ⊎ HasQueryError (by_statement None sql) table.schema table.source fault
-    → IsReadAs table.schema sql (Err fault) ⊎ HasColumnError table sql fault
+    → by_statement None sql table.schema (Err fault) ⊎ HasColumnError (by_statement None sql) table.schema table.source fault
+    → IsReadAs table.schema sql (Err fault) ⊎ HasColumnError (λ schema. IsReadAs schema sql) table.schema table.source fault
 rejection table sql fault (inl refused) = inl (statement_fault table.schema sql fault refused)
-rejection table sql fault (inr damaged) = inr (record { query = damaged.query; spelled = damaged.asked.0; fails = damaged.fails })
+rejection table sql fault (inr damaged) = inr (record { query = damaged.query; asked = damaged.asked.0; fails = damaged.fails })
 
 module _ (table : SessionTable) (sql : List ℕ) where
   -- an LF follows what was written, after the listener was told

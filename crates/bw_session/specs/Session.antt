@@ -9,10 +9,11 @@ use Rattle.bw_model.specs.Column.{names_of}
 use Rattle.bw_model.specs.FaultTable.{WRITE_FAILED}
 use Rattle.bw_model.specs.Fault.{is_memory, nowhere}
 use Rattle.bw_model.specs.Row.{Value}
-use Rattle.bw_memory.specs.ColumnStore.{ColumnSource, HasFirstFault, HasRows}
+use Rattle.bw_memory.specs.ColumnStore.{ColumnSource, HasRows}
 use Rattle.bw_report.specs.declared.served.Served.{Served}
 use Rattle.bw_query.specs.NamedColumns.{is_named_by}
 use Rattle.bw_query.specs.ProgramChoice.{IsServedAmong}
+use Rattle.bw_query.specs.StoreAnswer.{HasColumnError}
 use Rattle.bw_sql.specs.Cut.{HasNoToken}
 use Rattle.bw_sql.specs.Limits.{longest_statement}
 use Rattle.bw_sql.specs.Statement.{IsReadAs}
@@ -45,12 +46,6 @@ outputs taken told = record { taken = taken; told = told }
 abbrev pub AsksNothing : List ℕ → Type 0
 AsksNothing sql = (length sql ≤ longest_statement) × HasNoToken sql
 
--- the statement spells a query, and a column that it names has this error
-pub record HasColumnError (table : SessionTable) (sql : List ℕ) (fault : Fault) : Type 0 where
-  pub query : Query
-  pub spelled : IsReadAs table.schema sql (Ok query)
-  pub fails : HasFirstFault table.source (is_named_by query) fault
-
 -- What a session writes for a statement, and the statement's error if it is rejected. An empty
 -- statement writes nothing. One that spells a query writes the CSV text of its meaning over rows
 -- that have the columns which it names, and an LF. One that is rejected, or names a column that has
@@ -63,7 +58,8 @@ pub data IsOutput (table : SessionTable) (sql : List ℕ) : Option Fault → Lis
       (csv_text (meaning (names_of table.schema.columns.items) query rows) ++ 10 ∷ [])
   refusal : {fault : Fault} → (AsksNothing sql → ⊥)
       → (is_memory fault ≡ false
-      → IsReadAs table.schema sql (Err fault) ⊎ HasColumnError table sql fault)
+      → IsReadAs table.schema sql (Err fault)
+      ⊎ HasColumnError (λ schema. IsReadAs schema sql) table.schema table.source fault)
       → IsOutput table sql (Some fault) (10 ∷ [])
 
 -- What a session tells its listener of a statement with this error, if there is one: nothing of an
