@@ -6,7 +6,7 @@ use std::process::Abort;
 use std::test::Fail;
 
 /// Narrow, wide and nullable columns. The first four begin at 0, the next two at -10.
-const COLUMNS_TABLE: &str = "\
+pub(crate) const COLUMNS_TABLE: &str = "\
     TABLE t\n\
     COLUMN a 0 255 NOT NULL\n\
     COLUMN x 0 1048575\n\
@@ -22,7 +22,7 @@ const COLUMNS: [&str; 7] = ["a", "x", "y", "z", "b", "w", "g"];
 const COMPARISONS: [&str; 6] = ["=", "<>", "<", ">", "<=", ">="];
 
 /// NumberSource that conditions compare with, and that rows are near.
-const NEAR: [i64; 16] = [
+pub(crate) const NEAR: [i64; 16] = [
     -9223372036854775807,
     -300,
     -11,
