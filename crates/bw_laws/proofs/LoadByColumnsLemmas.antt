@@ -1,8 +1,8 @@
 -- What is answered over the file by columns of a load is answered over the CSV text.
-use Rattle.std.proofs.Common.{◌≡◌, ◌∙◌, refl, sym, ap, ap₂, subst, ℕ, zero, suc, ◌<◌, ◌≤◌, Bool, true, false, cond, ◌==◌, List, [], ◌∷◌, map, length, get_or, inl, inr}
+use Rattle.std.proofs.Common.{◌≡◌, ◌∙◌, refl, sym, ap, ap₂, subst, ℕ, zero, suc, ◌≤◌, Bool, true, cond, ◌==◌, List, [], ◌∷◌, map, length, inl, inr}
 use Rattle.std.proofs.Common.{None, Some, Option, Result, Ok, Err, arith}
 use Rattle.std.specs.Io.KnownBytes.{Appends}
-use Rattle.std.specs.List.{list_all, range_with_len}
+use Rattle.std.specs.List.{list_all}
 use Rattle.std.proofs.lemmas.Bool.{cases_Bool, cases_lt, eq-eqb, eqb-true}
 use Rattle.std.proofs.lemmas.List.FromFn.{get_or-map-range_with_len, length-map-range_with_len}
 use Rattle.bw_model.specs.declared.column.Column.{Column}
@@ -17,7 +17,6 @@ use Rattle.bw_model.specs.Schema.{IsSchema}
 use Rattle.bw_model.specs.SchemaText.{schema_shape}
 use Rattle.bw_model.proofs.BitsLemmas.{both}
 use Rattle.bw_model.proofs.PlaceLemmas.{length_admitted}
-use Rattle.bw_sql.specs.QueryShape.{query_shape}
 use Rattle.bw_sql.proofs.SameNames.{columns_too}
 use Rattle.bw_answer.specs.Answer.{csv_text, meaning}
 use Rattle.csv.specs.Reading.{default_config, records, strip_bom}
@@ -129,18 +128,20 @@ module _ (are : AreTheFiles) (layout : Layout) (schema : Schema) (csv bytes : Li
   pub columns_of : (schema_of (table_in found.columnar)).columns.items ≡ schema.columns.items
   columns_of = columns_too (schema_of (table_in found.columnar)) schema shape_of
 
+  -- the text of the query's meaning over the rows of the CSV text
+  pub text_of : text ≡ csv_text (meaning (names_of schema.columns.items) found.query of.rows)
+  text_of =
+      let columns = schema.columns.items in
+      let rows = are.rows bytes layout schema of.rows found.columnar _ of.file found.asked.opened found.columns in
+      found.is ∙ ap₂ (λ (cs : List Column) (l : Rows). csv_text (meaning (names_of cs) found.query l)) columns_of rows
+      ∙ ap csv_text (meaning_read columns (is_read found.program found.query) found.query (reads found.program found.query) (names_of columns) of.rows of.file.admitted.admitted)
+
   pub answered : (asked : Query → Type 0) (old new : Option (List ℕ)) → asked found.query → Appends old new text → AnswersCsv asked schema csv old new
   answered asked old new is took =
-      let columns = schema.columns.items in
-      let names = names_of columns in
-      let rows = are.rows bytes layout schema of.rows found.columnar _ of.file found.asked.opened found.columns in
-      let same : text ≡ csv_text (meaning names found.query of.rows) =
-      found.is ∙ ap₂ (λ (cs : List Column) (l : Rows). csv_text (meaning (names_of cs) found.query l)) columns_of rows
-      ∙ ap csv_text (meaning_read columns (is_read found.program found.query) found.query (reads found.program found.query) names of.rows of.file.admitted.admitted) in
       record {
         query = found.query;
         asked = is;
-        text = csv_text (meaning names found.query of.rows);
+        text = csv_text (meaning (names_of schema.columns.items) found.query of.rows);
         is = rw of.spelled refl;
-        took = subst (Appends old new) same took;
+        took = subst (Appends old new) text_of took;
       }

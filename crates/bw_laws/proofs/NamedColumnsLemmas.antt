@@ -8,7 +8,6 @@ use Rattle.std.proofs.lemmas.Bool.{eq-eqb}
 use Rattle.std.proofs.lemmas.List.{length-map}
 use Rattle.bw_model.specs.declared.cond.Truth.{Truth}
 use Rattle.bw_model.specs.declared.cond.Truth.TheVariants.{Yes}
-use Rattle.bw_model.specs.declared.cond.Op.TheVariants.{Eq}
 use Rattle.bw_model.specs.declared.cond.Operand.{Operand}
 use Rattle.bw_model.specs.declared.cond.Operand.TheVariants.{Col, Lit, Null}
 use Rattle.bw_model.specs.declared.cond.Cond.{Cond, Cond-F, fold-roll-Cond, roll-Cond, ind-Cond}
@@ -22,8 +21,8 @@ use Rattle.bw_model.specs.Selection.{matching_rows}
 use Rattle.bw_model.specs.Total.{present, total}
 use Rattle.bw_model.specs.Truth.{all_of, any_of, between, compare_values, in_list, is_null, is_truth}
 use Rattle.bw_model.specs.Truth.{negation, truth_from}
-use Rattle.bw_answer.specs.Answer.{field_of, heading_of, lists_rows, meaning, records_of, row_records}
-use Rattle.bw_answer.specs.Answer.{totals_record, value_text}
+use Rattle.bw_answer.specs.Answer.{field_of, heading_of, lists_rows, meaning}
+use Rattle.bw_answer.specs.Answer.{value_text}
 use Rattle.bw_query.specs.NamedColumns.{cond_names, item_names, names_step, operand_names, query_names}
 
 -- the first or the second is true, if one is

@@ -1,6 +1,6 @@
 -- A number in decimal, NULL and a name, each as a field of a CSV text: it needs no quotes, and it
 -- spells itself.
-use Rattle.std.proofs.Common.{◌≡◌, ◌∙◌, ℕ, ℤ, pos, negsuc, suc, ◌-ℤ◌, ◌-◌, ◌^◌, ◌<◌, ◌≤◌, List, []}
+use Rattle.std.proofs.Common.{◌≡◌, ◌∙◌, ℕ, ℤ, pos, negsuc, suc, ◌-ℤ◌, ◌^◌, ◌<◌, ◌≤◌, List, []}
 use Rattle.std.proofs.Common.{◌∷◌, Some, None, Ok, Bool, true, false, not, length}
 use Rattle.std.proofs.Common.{map, refl, sym, ap, arith, eqb, lt-ltb, FitsSigned, w64, All}
 use Rattle.std.specs.Prelude.{◌&&◌, ◌||◌, int_le, nat_le}

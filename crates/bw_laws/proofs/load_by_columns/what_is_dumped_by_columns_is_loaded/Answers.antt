@@ -12,7 +12,7 @@ use Rattle.bw_csv_calls.specs.Load.{file_in}
 use Rattle.bw_query.specs.TableAnswer.{IsEveryRow}
 use Rattle.bw_laws.specs.Backup.{table_text}
 use Rattle.bw_laws.proofs.BackupLemmas.{dump_text, text_spells}
-use Rattle.bw_laws.proofs.LoadByColumnsLemmas.{AreTheFiles, LoadedByColumns, answered, columns_of}
+use Rattle.bw_laws.proofs.LoadByColumnsLemmas.{AreTheFiles, LoadedByColumns, columns_of, text_of}
 use Rattle.bw_laws.proofs.load_by_columns.what_is_dumped_by_columns_is_loaded.Goals as goal
 
 by_rows : (bytes : List ℕ) (layout : Layout) (schema : Schema) (rows : List (List Value)) → IsColumnarFile bytes layout schema rows → IsFileBytes (file_bytes layout schema rows) layout schema rows
@@ -30,8 +30,8 @@ returns c = record {
       let of : LoadedByColumns layout schema (table_text schema rows) bytes = record { rows = rows; spelled = text_spells (file_bytes layout schema rows) layout schema rows whole; file = file } in
       let columns = columns_of are layout schema (table_text schema rows) bytes of _ _ text found in
       let every : IsEveryRow schema found.query = record { columns = rw columns at found.asked.asked.columns; rows = found.asked.asked.rows } in
-      subst (Appends old new) (dump_text (file_bytes layout schema rows) layout schema rows found.query whole every)
-      (answered are layout schema (table_text schema rows) bytes of _ _ text found (IsEveryRow schema) old new every wrote).took;
+      subst (Appends old new)
+      (text_of are layout schema (table_text schema rows) bytes of _ _ text found ∙ dump_text (file_bytes layout schema rows) layout schema rows found.query whole every) wrote;
   loaded = λ bytes layout other schema rows order file. loads bytes layout other schema rows order file;
   same = λ bytes layout schema rows file. loads bytes layout layout schema rows ByColumns file ∙ ap Ok (sym file.text);
 }
