@@ -7,8 +7,9 @@
 //! line itself, and a proposal that it doesn't accept isn't used.
 //!
 //! It is a compiler, which knows nothing of diagrams: `formula.rt` reads a condition, and
-//! `truths.rt` writes the instructions of its parts. The certificate is found by `bw_prover`. If a
-//! skip can't be proved, the condition is compiled again with fewer of them (`plan.rt`).
+//! `truths.rt` writes the instructions of its parts, for the truths that they may have
+//! (`possible.rt`). The certificate is found by `bw_prover`. If a skip can't be proved, or a limit
+//! is passed, the condition is compiled again with fewer of them (`plan.rt`).
 //!
 //! A program compares codes byte by byte from the top, as in ByteSlice (Feng, Lo, Kao and Xu), and
 //! skips stop a comparison early, as in BitWeaving (Li and Patel). Columns are compared with one

@@ -24,7 +24,7 @@ impl Code<'_> {
     pub(crate) fn whole(&mut self, part: &Formula) -> Made {
         let made = self.truths(part, TruthPair::of(true, false))?;
         let answer = self.or_none(made.yes)?;
-        if self.skips.count == 0 {
+        if self.skips.count == 0 && !matches!(part, Formula::Fixed(Truth::Yes)) {
             // A skip at the end lets counts show empty segments.
             self.skip(answer)?;
         }
