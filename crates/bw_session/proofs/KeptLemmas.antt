@@ -35,7 +35,7 @@ long_output table kept sql _ _ kept_long long (answer query rows spelled have) =
 long_output table kept sql _ _ kept_long long (refusal {fault} asks spelled) =
     refusal (long_asks sql long) (λ other. elim (spelled other) [
       | inl own ↦ inl (long_fault table.schema kept sql fault kept_long long own)
-      | inr damaged ↦ absurd (omega (arith, damaged.spelled.short, kept_long))
+      | inr damaged ↦ absurd (omega (arith, damaged.asked.short, kept_long))
     ])
 
 long_told : (table : SessionTable) (sql : List ℕ) (fault : Option Fault) (notes : List Note)
