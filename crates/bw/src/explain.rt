@@ -108,7 +108,10 @@ fn explain_place(rt: &HostRuntime, ended: &CommandFailure<'_>, file: &str) {
             eprintln!(rt; "    {} changed while it was read", file)
         }
         (code::READ_FAILED, _, Some((_, Reads::OfPipe))) => {
-            eprintln!(rt; "    {} is a pipe; a file by columns is read at places", file)
+            eprintln!(rt;
+                "    {} is a pipe; a file by columns is read at places",
+                file
+            )
         }
         (code::READ_FAILED, _, Some((_, Reads::Failed(error)))) => {
             return print_failure(rt, file, "opened or read", Some(error));
