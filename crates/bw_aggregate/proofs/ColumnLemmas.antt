@@ -1,7 +1,7 @@
 -- The values of a column in selected rows, by its codes and its nulls.
 use Rattle.std.proofs.Common.{◌≡◌, ◌∙◌, refl, sym, ap, ap₂, ℕ, suc, ℤ, pos, ◌-◌, ◌<◌, Bool, true}
 use Rattle.std.proofs.Common.{false, not, cond, ◌&&◌, ◌||◌, List, [], ◌∷◌, ◌++◌, map, count_by, length}
-use Rattle.std.proofs.Common.{replicate, Option, Some, None, subst, ◌+ℤ◌, unwrap_or, arith}
+use Rattle.std.proofs.Common.{replicate, Option, Some, None, subst, ◌+ℤ◌, unwrap_or, arith, get_or, le-ltb}
 use Rattle.std.proofs.lemmas.List.{length-map}
 use Rattle.std.specs.Int.{int_max, int_min}
 use Rattle.std.specs.List.{list_all, list_any, cons_option, reduce}
@@ -10,7 +10,7 @@ use lib.Lanes.{zip2}
 use Rattle.bw_lanes.specs.Lanes.{lanes_of_words}
 use Rattle.bw_model.specs.declared.column.Column.{Column}
 use Rattle.bw_model.specs.Row.{Value, value_in}
-use Rattle.bw_model.specs.Code.{value_at}
+use Rattle.bw_model.specs.Code.{span_of, value_at}
 use Rattle.bw_model.specs.Column.{admits_values}
 use Rattle.bw_model.specs.Groups.{group_size}
 use Rattle.bw_model.specs.Selection.{selected_items}
@@ -21,6 +21,7 @@ use Rattle.bw_model.specs.Truth.{is_null}
 use Rattle.bw_model.proofs.BitsLemmas.{both}
 use Rattle.bw_segment.specs.Packing.{value_held}
 use Rattle.bw_segment.specs.Meaning.{Meaning, IsGroup, code_lanes, null_bits, stored_codes}
+use Rattle.bw_segment.proofs.LaneValues.{codes_within}
 use Rattle.bw_segment.proofs.ValueLemmas.{held_admitted}
 use Rattle.bw_segment.specs.Selected.{codes_in, is_beyond}
 use Rattle.bw_segment.proofs.SelectedCodes.{codes_counted}
@@ -113,3 +114,23 @@ maximum_left meaning col code lo so_far lanes group lt within values is none =
     subst (λ a. combine_totals (Max col) a None ≡ combine_totals (Max col) a (reduce int_max (present col (selected_rows meaning lanes)))) (sym is)
     (greatest_kept lo (value_at meaning.columns col) col code (codes_in meaning col (present_lanes meaning col lanes)) values (none_in_present (is_beyond true code) meaning col lanes none)
     ∙ ap (λ vs. combine_totals (Max col) (Some (lo +ℤ pos code)) (reduce int_max vs)) (sym (values_are_codes meaning col lanes group lt within)))
+
+none_of : (test : ℕ → Bool) (lanes : List Bool) (codes : List ℕ) → ((at : ℕ) → at < length codes → test (get_or codes at 0) ≡ false) → list_any test (selected_items lanes codes) ≡ false
+none_of test [] codes each = refl
+none_of test (lane ∷ lanes) [] each = refl
+none_of test (true ∷ lanes) (code ∷ codes) each =
+    ap (λ b. b || list_any test (selected_items lanes codes)) (each 0 (omega arith)) ∙ none_of test lanes codes (λ at lt. each (suc at) (omega (arith, lt)))
+none_of test (false ∷ lanes) (code ∷ codes) each = none_of test lanes codes (λ at lt. each (suc at) (omega (arith, lt)))
+
+-- no code is below 0, and none is above the column's maximum
+pub none_below_first : (meaning : Meaning) (col code : ℕ) → code ≡ 0 → (lanes : List Bool) → list_any (is_beyond false code) (codes_in meaning col lanes) ≡ false
+unfolding codes_in
+none_below_first meaning col code first lanes =
+    none_of (is_beyond false code) lanes (code_lanes meaning col) (λ at lt. le-ltb (get_or (code_lanes meaning col) at 0) code (omega (arith, first)))
+
+pub none_above_last : (meaning : Meaning) (col code : ℕ) (column : Column) → col < length meaning.columns → column ≡ get_or meaning.columns col column → code ≡ span_of column → (lanes : List Bool)
+    → list_any (is_beyond true code) (codes_in meaning col lanes) ≡ false
+unfolding codes_in
+none_above_last meaning col code column lt read last lanes =
+    let within = codes_within meaning col column lt read in
+    none_of (is_beyond true code) lanes (code_lanes meaning col) (λ at there. le-ltb code (get_or (code_lanes meaning col) at 0) (omega (arith, last, within at 0 there)))

@@ -1,6 +1,6 @@
 //! The aggregates of a column over the selected rows of one segment.
 ghost use Rattle.std.specs.Prelude.{◌≡◌, ◌^◌, ◌<◌, ◌≤◌, ◌+ℤ◌, ◌*ℤ◌, ℕ, ℤ, pos, true, false, IfSome};
-ghost use Rattle.std.specs.Prelude.{Some, length};
+ghost use Rattle.std.specs.Prelude.{Some, length, List, Bool};
 ghost use Rattle.std.specs.List.{list_any, reduce};
 ghost use Rattle.std.specs.Int.{int_min, int_max};
 ghost use Rattle.bw_lanes.specs.Lanes.{lanes_of_words};
@@ -67,18 +67,30 @@ pub(crate) fn greatest<S: Segment>(segment: &S, col: usize, rows: &Selection) ->
     Some(value_of_code(lowest(segment, col), code))
 }
 
-/// The highest digits of at most this many rows are often all beside those of a minimum or maximum
-/// so far.
-const SOME: u32 = 16;
+/// Returns true only if no code of a column is beyond this one. If none is, nothing has to be read.
+#[inline(always)]
+fn is_last<S: Segment>(segment: &S, col: usize, code: u64, which: Extreme) -> bool
+    requires { col < length (S.meaning segment.now).columns }
+    ensures { result ≡ true → (lanes : List Bool)
+        → list_any (is_beyond (is_greatest which) code)
+        (codes_in (S.meaning segment.now) col lanes) ≡ false }
+{
+    match which {
+        Extreme::Least => code == 0,
+        Extreme::Greatest => {
+            let column = &segment.schema().columns[col];
+            code == column.hi.abs_diff(column.lo)
+        }
+    }
+}
 
 /// Returns true only if no value of the codes in these rows is beyond a total: above it, or below
-/// it if the least is sought. If more than a few rows were selected, `number` of them, the digits aren't looked at.
+/// it if the least is sought.
 #[inline(always)]
 pub(crate) fn none_beyond<S: Segment>(
     segment: &S,
     col: usize,
     rows: &Selection,
-    number: u32,
     so_far: Option<i128>,
     which: Extreme,
 ) -> bool
@@ -89,14 +101,13 @@ pub(crate) fn none_beyond<S: Segment>(
         × (list_any (is_beyond (is_greatest which) code)
         (codes_in (S.meaning segment.now) col (lanes_of_words rows.now)) ≡ false) }
 {
-    if number > SOME {
-        return false;
-    }
     let Some(total) = so_far else {
         return false;
     };
     match code_of_value(lowest(segment, col), total) {
-        Some(code) => segment.none_beyond(col, rows, code, which),
+        Some(code) => {
+            is_last(segment, col, code, which) || segment.none_beyond(col, rows, code, which)
+        }
         None => false,
     }
 }
@@ -108,7 +119,6 @@ pub(crate) fn no_value_below<S: Segment>(
     segment: &S,
     col: usize,
     rows: &Selection,
-    number: u32,
     so_far: Option<i128>,
 ) -> bool
     requires { col < length (S.meaning segment.now).columns }
@@ -118,14 +128,16 @@ pub(crate) fn no_value_below<S: Segment>(
         × (list_any (is_beyond false code) (codes_in (S.meaning segment.now) col
         (present_lanes (S.meaning segment.now) col (lanes_of_words rows.now))) ≡ false) }
 {
-    none_beyond(
-        segment,
-        col,
-        &present(segment, col, rows),
-        number,
-        so_far,
-        Extreme::Least,
-    )
+    let Some(total) = so_far else {
+        return false;
+    };
+    match code_of_value(lowest(segment, col), total) {
+        Some(code) => {
+            is_last(segment, col, code, Extreme::Least)
+                || segment.none_beyond(col, &present(segment, col, rows), code, Extreme::Least)
+        }
+        None => false,
+    }
 }
 
 /// Returns the code of a value, if `lowest` is that of the code 0, or None if it has none of 63

@@ -75,9 +75,12 @@ fn total_of<S: Segment>(
     }
 }
 
+/// One of more rows than this is usually null, if the column is nullable.
+const SOME: u32 = 16;
+
 /// Returns true only if the selected rows of a segment, `number` of them, leave a total so far as
 /// it is. The code of a null is 0, which is above no other, so a maximum needn't look at nulls, and
-/// a minimum only if a code is below its own.
+/// a minimum of few rows only if a code is below its own.
 #[inline(always)]
 fn leaves_total<S: Segment>(
     item: Item,
@@ -95,11 +98,14 @@ fn leaves_total<S: Segment>(
 {
     match item {
         Item::Min(col) => {
-            none_beyond(segment, col, selection, number, so_far, Extreme::Least)
-                || segment.schema().columns[col].nullable
-                    && no_value_below(segment, col, selection, number, so_far)
+            let nullable = segment.schema().columns[col].nullable;
+            if nullable && number > SOME {
+                return no_value_below(segment, col, selection, so_far);
+            }
+            none_beyond(segment, col, selection, so_far, Extreme::Least)
+                || nullable && no_value_below(segment, col, selection, so_far)
         }
-        Item::Max(col) => none_beyond(segment, col, selection, number, so_far, Extreme::Greatest),
+        Item::Max(col) => none_beyond(segment, col, selection, so_far, Extreme::Greatest),
         Item::Plain(_) | Item::CountAll | Item::Count(_) | Item::Sum(_) => false,
     }
 }

@@ -1,6 +1,6 @@
 -- The highest digits of codes, which tell in nearly all segments that none is above a number, or
 -- below it.
-use Rattle.std.proofs.Common.{◌≡◌, ◌∙◌, refl, sym, ap, subst, ℕ, ◌+◌, ◌/◌, ◌%◌, ◌^◌, ◌<◌, Bool}
+use Rattle.std.proofs.Common.{◌≡◌, ◌∙◌, refl, sym, ap, subst, ℕ, ◌+◌, ◌-◌, ◌/◌, ◌%◌, ◌^◌, ◌<◌, Bool}
 use Rattle.std.proofs.Common.{true, false, not, cond, ltb, ◌||◌, List, [], ◌∷◌, map, arith}
 use Rattle.std.proofs.Common.{mod-eq_of_lt, le-ltb, ltb-true, ltb-false, pow_pos}
 use Rattle.std.specs.List.{AllByRecursion, list_all, list_any}
@@ -23,27 +23,26 @@ none_near width low digits most whole (code ∷ codes) small none =
     let lt : code < most = below code most (2 ^ low) (pow_pos low) (subst (λ n. n < most / 2 ^ low) same lower) in
     ap (λ b. b || list_any (ltb most) codes) (le-ltb most code (omega (arith, lt))) ∙ none_near width low digits most whole codes small.1 parts.1
 
--- the highest digits of a code are at least those of another or, unless the greatest is sought, at
--- most those
-abbrev pub is_near : Bool → ℕ → ℕ → ℕ → Bool
-is_near greatest low top code = cond greatest (not (ltb (code / 2 ^ low % 2 ^ 6) top)) (ltb (code / 2 ^ low % 2 ^ 6) (top + 1))
+-- the digits of a code from one on, this many, don't show that it isn't beyond another one
+abbrev pub is_near : Bool → ℕ → ℕ → ℕ → ℕ → Bool
+is_near greatest low digits other code = cond greatest (not (ltb (code / 2 ^ low % 2 ^ digits) ((other + 1) / 2 ^ low))) (ltb (code / 2 ^ low % 2 ^ digits) ((other - 1) / 2 ^ low + 1))
 
-apart : (greatest : Bool) (width low other code : ℕ) → width ≡ 6 + low → code < 2 ^ width → is_near greatest low (other / 2 ^ low) code ≡ false → is_beyond greatest other code ≡ false
-apart true width low other code whole small far =
-    let lower = ltb-true (code / 2 ^ low % 2 ^ 6) (other / 2 ^ low) (sym (not-not _) ∙ ap not far) in
-    let same = mod-eq_of_lt (without_ones code low 6 width small (omega (arith, whole))) in
-    let lt : code < other = below code other (2 ^ low) (pow_pos low) (subst (λ n. n < other / 2 ^ low) same lower) in
+apart : (greatest : Bool) (width low digits other code : ℕ) → width ≡ digits + low → code < 2 ^ width → is_near greatest low digits other code ≡ false → is_beyond greatest other code ≡ false
+apart true width low digits other code whole small far =
+    let lower = ltb-true (code / 2 ^ low % 2 ^ digits) ((other + 1) / 2 ^ low) (sym (not-not _) ∙ ap not far) in
+    let same = mod-eq_of_lt (without_ones code low digits width small (omega (arith, whole))) in
+    let lt : code < other + 1 = below code (other + 1) (2 ^ low) (pow_pos low) (subst (λ n. n < (other + 1) / 2 ^ low) same lower) in
     le-ltb other code (omega (arith, lt))
-apart false width low other code whole small far =
-    let higher = ltb-false (code / 2 ^ low % 2 ^ 6) (other / 2 ^ low + 1) far in
-    let same = mod-eq_of_lt (without_ones code low 6 width small (omega (arith, whole))) in
-    let lt : other < code = below other code (2 ^ low) (pow_pos low) (omega (arith, same, higher)) in
+apart false width low digits other code whole small far =
+    let higher = ltb-false (code / 2 ^ low % 2 ^ digits) ((other - 1) / 2 ^ low + 1) far in
+    let same = mod-eq_of_lt (without_ones code low digits width small (omega (arith, whole))) in
+    let lt : other - 1 < code = below (other - 1) code (2 ^ low) (pow_pos low) (omega (arith, same, higher)) in
     le-ltb code other (omega (arith, lt))
 
--- no code is beyond another where the highest digits of none are near that one's
-pub none_beyond : (greatest : Bool) (width low other : ℕ) → width ≡ 6 + low → (codes : List ℕ) → AllByRecursion (λ code. code < 2 ^ width) codes
-    → list_any (is_near greatest low (other / 2 ^ low)) codes ≡ false → list_any (is_beyond greatest other) codes ≡ false
-none_beyond greatest width low other whole [] small far = refl
-none_beyond greatest width low other whole (code ∷ codes) small far =
-    let parts = or_parts (is_near greatest low (other / 2 ^ low) code) _ far in
-    ap (λ b. b || list_any (is_beyond greatest other) codes) (apart greatest width low other code whole small.0 parts.0) ∙ none_beyond greatest width low other whole codes small.1 parts.1
+-- no code is beyond another one if the highest digits show it of each
+pub none_beyond : (greatest : Bool) (width low digits other : ℕ) → width ≡ digits + low → (codes : List ℕ) → AllByRecursion (λ code. code < 2 ^ width) codes
+    → list_any (is_near greatest low digits other) codes ≡ false → list_any (is_beyond greatest other) codes ≡ false
+none_beyond greatest width low digits other whole [] small far = refl
+none_beyond greatest width low digits other whole (code ∷ codes) small far =
+    let parts = or_parts (is_near greatest low digits other code) _ far in
+    ap (λ b. b || list_any (is_beyond greatest other) codes) (apart greatest width low digits other code whole small.0 parts.0) ∙ none_beyond greatest width low digits other whole codes small.1 parts.1

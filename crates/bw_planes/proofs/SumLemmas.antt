@@ -12,7 +12,8 @@ use Rattle.std.proofs.lemmas.List.{drop-map, length-take}
 use Rattle.std.proofs.lemmas.List.Concat.{flat_map-append}
 use Rattle.std.proofs.lemmas.List.Sums.{sum_by-cons}
 use Rattle.bw_lanes.specs.Lanes.{bits_from_least, lanes_of_bytes}
-use Rattle.bw_lanes.proofs.WordLemmas.{length-lanes_of_bytes, no_lanes}
+use Rattle.bw_lanes.proofs.WordLemmas.{length-lanes_of_bytes, no_lanes, lanes_more, length-first}
+use Rattle.bw_lanes.proofs.WordLemmas.{before_and_part, part_is}
 use Rattle.bw_model.specs.Groups.{group_size}
 use Rattle.bw_model.specs.Variable.{binary_number}
 use Rattle.bw_model.specs.Code.{has_bit}
@@ -97,19 +98,27 @@ numbers_joined few rest (code ∷ codes) small =
     together : (a b c d k : ℕ) → a + c + (b + d) * k ≡ b * k + a + (c + d * k)
     together a b c d k = grind arith
 
-pub few_joined : (few rest lower upper : ℕ) → lower + 64 ≤ 64 * 2 ^ few → upper + 64 ≤ 64 * 2 ^ rest → rest + few ≤ 63 → lower + upper * 2 ^ few ≤ 2 ^ 69
-few_joined few rest lower upper here there le =
-    let most = pow_mono {i = rest + few} {j = 63} le in
-    let moved : (upper + 64) * 2 ^ few ≤ 64 * 2 ^ rest * 2 ^ few = mul-le-mul there (same (2 ^ few)) in
-    omega (arith, here, distributed upper (2 ^ few), moved, associated (2 ^ rest) (2 ^ few), pow-add 2 rest few, most)
+-- the bits of so many codes, the low ones and the others
+joined : (few rest most lower upper : ℕ) → lower + most ≤ most * 2 ^ few → upper + most ≤ most * 2 ^ rest → lower + upper * 2 ^ few ≤ most * 2 ^ (rest + few)
+joined few rest most lower upper here there =
+    let moved : (upper + most) * 2 ^ few ≤ most * 2 ^ rest * 2 ^ few = mul-le-mul there (same (2 ^ few)) in
+    omega (arith, here, distributed upper most (2 ^ few), moved, associated most (2 ^ rest) (2 ^ few), ap (λ n. most * n) (pow-add 2 rest few))
   where
     same : (k : ℕ) → k ≤ k
     same k = omega arith
 
-    distributed : (n k : ℕ) → (n + 64) * k ≡ n * k + 64 * k
-    distributed n k = grind arith
+    distributed : (n m k : ℕ) → (n + m) * k ≡ n * k + m * k
+    distributed n m k = grind arith
 
-    associated : (n k : ℕ) → 64 * n * k ≡ 64 * (n * k)
-    associated n k = grind arith
+    associated : (m n k : ℕ) → m * n * k ≡ m * (n * k)
+    associated m n k = grind arith
+
+pub few_joined : (few rest lower upper : ℕ) → lower + 64 ≤ 64 * 2 ^ few → upper + 64 ≤ 64 * 2 ^ rest → rest + few ≤ 63 → lower + upper * 2 ^ few ≤ 2 ^ 69
+few_joined few rest lower upper here there le =
+    let most = pow_mono {i = rest + few} {j = 63} le in omega (arith, joined few rest 64 lower upper here there, most)
+
+pub many_joined : (few rest lower upper : ℕ) → lower + 512 ≤ 512 * 2 ^ few → upper + 512 ≤ 512 * 2 ^ rest → rest + few ≤ 63 → lower + upper * 2 ^ few ≤ 2 ^ 72
+many_joined few rest lower upper here there le =
+    let most = pow_mono {i = rest + few} {j = 63} le in omega (arith, joined few rest 512 lower upper here there, most)
 
 pub ruleset word_sums = (no_lanes, word_more, words_summed, no_bits, codes_long)

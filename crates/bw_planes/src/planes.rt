@@ -1,18 +1,18 @@
 //! Codes stored as planes, and the results of their kernels.
-ghost use Rattle.std.specs.Prelude.{◌≡◌, ◌+◌, ◌*◌, ◌/◌, ◌%◌, ◌^◌, ◌<◌, ◌≤◌, IfSome, false};
+ghost use Rattle.std.specs.Prelude.{◌≡◌, ◌+◌, ◌-◌, ◌*◌, ◌/◌, ◌%◌, ◌^◌, ◌<◌, ◌≤◌, IfSome, false};
 ghost use Rattle.std.specs.Prelude.{if◌then◌else◌, length, map, max, min, nat_lt, not, true};
 ghost use Rattle.std.specs.List.{list_any, reduce};
 ghost use Rattle.bw_lanes.specs.Lanes.{lanes_of_words};
 ghost use Rattle.bw_model.specs.Code.{has_bit};
 ghost use Rattle.bw_model.specs.Selection.{selected_items};
 ghost use Rattle.bw_model.specs.StoredCodes.{byte_of};
-ghost use Rattle.bw_segment.specs.Selected.{is_greatest};
+ghost use Rattle.bw_segment.specs.Selected.{is_beyond, is_greatest};
 ghost use Rattle.bw_planes.specs.Planes.{plane_packing, planes_codes};
 
 use crate::compare::{at_least, byte_at_least, eq, equal_step};
-use crate::sum::sum_in_word;
+use crate::sum::{is_dense, sum_in_planes, sum_in_word};
 use bw_lanes::{
-    LANES, Plane, Selection, and, bytes_bit, is_zero, load, not, or, push_bit, to_bytes,
+    LANES, Plane, Selection, and, bytes_bit, count, is_zero, load, not, or, push_bit, to_bytes,
 };
 use bw_model::Fault;
 use bw_segment::{CodeLayout, Extreme, push_byte, put_byte, slices_of};
@@ -82,6 +82,9 @@ impl CodeLayout for Planes {
 
     #[tactic(auto, using(crate::proofs::SumLemmas::word_sums))]
     fn sum(width: u32, bytes: &[u8], lanes: &Selection) -> u128 {
+        if is_dense(lanes) {
+            return sum_in_planes(width, bytes, lanes);
+        }
         let mut sum = 0;
         for word in 0..8 {
             if lanes[word] != 0 {
@@ -106,11 +109,11 @@ impl CodeLayout for Planes {
         other: u64,
         which: Extreme,
     ) -> bool {
-        if width <= FIRST {
-            return false;
+        if FIRST < width && count(lanes) <= SOME {
+            are_far(width, bytes, lanes, FIRST, other, which)
+        } else {
+            are_many_far(width, bytes, lanes, other, which)
         }
-        let low = width - FIRST;
-        is_zero(&and(lanes, &near(width, bytes, low, other >> low, which)))
     }
 
     #[tactic(auto, using(crate::proofs::CodeLemmas::code_steps))]
@@ -190,21 +193,64 @@ fn none_is_near(width: u32, bytes: &[u8], most: u64) -> bool
 /// this many of its highest digits are the same as that code's, or beyond them.
 const FIRST: u32 = 6;
 
-/// Returns the lanes whose highest digits, from `low` upwards, are at least `top` or, if the least
-/// is sought, at most `top`.
+/// Of more codes than this, one often has these digits too. More of them are compared.
+const SOME: u32 = 16;
+
+/// Returns true only if the highest digits, this many, show that no code in these lanes is beyond
+/// `other`. It is compiled into its callers, so that the loop over a few digits is unrolled.
 #[inline(always)]
-fn near(width: u32, bytes: &[u8], low: u32, top: u64, which: Extreme) -> Plane
+fn are_far(
+    width: u32,
+    bytes: &[u8],
+    lanes: &Selection,
+    digits: u32,
+    other: u64,
+    which: Extreme,
+) -> bool
     requires width { (1 ≤ width) × (width ≤ 63) }
     requires size { length bytes.now ≡ 64 * width }
-    requires bits { low + 6 ≤ width }
-    requires top { top < 2 ^ 63 }
-    ensures { lanes_of_words result ≡ map (λ code. if is_greatest which
-        then not (nat_lt (code / 2 ^ low % 2 ^ 6) top)
-        else nat_lt (code / 2 ^ low % 2 ^ 6) (top + 1)) (planes_codes width bytes.now) }
+    requires digits { (1 ≤ digits) × (digits ≤ width) }
+    requires other { other < 2 ^ 63 }
+    ensures { result ≡ true → list_any (is_beyond (is_greatest which) other)
+        (selected_items (lanes_of_words lanes.now) (planes_codes width bytes.now)) ≡ false }
 {
+    is_zero(&and(lanes, &near(width, bytes, digits, other, which)))
+}
+
+/// Does this with more of the highest digits, or with all. It isn't compiled into its caller, which
+/// takes less time for a few lanes then.
+#[inline(never)]
+fn are_many_far(width: u32, bytes: &[u8], lanes: &Selection, other: u64, which: Extreme) -> bool
+    requires width { (1 ≤ width) × (width ≤ 63) }
+    requires size { length bytes.now ≡ 64 * width }
+    requires other { other < 2 ^ 63 }
+    ensures { result ≡ true → list_any (is_beyond (is_greatest which) other)
+        (selected_items (lanes_of_words lanes.now) (planes_codes width bytes.now)) ≡ false }
+{
+    are_far(width, bytes, lanes, HIGHEST.min(width), other, which)
+}
+
+/// Returns the lanes whose highest digits, this many, don't show that the code isn't beyond
+/// `other`. If these are all digits, they are the lanes in which it is.
+#[inline(always)]
+fn near(width: u32, bytes: &[u8], digits: u32, other: u64, which: Extreme) -> Plane
+    requires width { (1 ≤ width) × (width ≤ 63) }
+    requires size { length bytes.now ≡ 64 * width }
+    requires digits { (1 ≤ digits) × (digits ≤ width) }
+    requires other { other < 2 ^ 63 }
+    ensures { lanes_of_words result ≡ map (λ code. if is_greatest which
+        then not (nat_lt (code / 2 ^ (width - digits) % 2 ^ digits)
+        ((other + 1) / 2 ^ (width - digits)))
+        else nat_lt (code / 2 ^ (width - digits) % 2 ^ digits)
+        ((other - 1) / 2 ^ (width - digits) + 1)) (planes_codes width bytes.now) }
+{
+    let low = width - digits;
     match which {
-        Extreme::Greatest => at_least(width, bytes, low, FIRST, top),
-        Extreme::Least => not(&at_least(width, bytes, low, FIRST, top + 1)),
+        Extreme::Greatest => at_least(width, bytes, low, digits, (other + 1) >> low),
+        Extreme::Least => {
+            let top = (other.saturating_sub(1) >> low) + 1;
+            not(&at_least(width, bytes, low, digits, top))
+        }
     }
 }
 

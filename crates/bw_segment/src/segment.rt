@@ -81,9 +81,9 @@ pub trait Segment {
         ensures bound { IfSome result (λ code. code < 2 ^ 63) };
 
     /// Returns true only if no code of a column in these rows is beyond `other`: above it, or below
-    /// it if the least is sought. It may return false then too: where many rows or most digits would
-    /// have to be read, the maximum or the minimum is found as fast. Null, and the rows past the
-    /// last one, have code 0.
+    /// it if the least is sought. It may return false then too: where most digits would have to be
+    /// read, the maximum or the minimum is found as fast. Null, and the rows past the last one, have
+    /// code 0.
     fn none_beyond(&self, col: usize, rows: &Selection, other: u64, which: Extreme) -> bool
         requires column { col < length (meaning self.now).columns }
         requires other { other < 2 ^ 63 }

@@ -1,4 +1,5 @@
 pub mod AboveLemmas
+pub mod BeyondLemmas
 pub mod ChosenLemmas
 pub mod CodeLemmas
 pub mod FarLemmas

@@ -12,9 +12,25 @@ use bw_lanes::{LANES, Plane};
 use std::simd::prelude::*;
 
 /// Returns the lanes in which the number that `slices` slices spell is above `most`, which has as
-/// many bytes.
-#[tactic(auto, using(crate::proofs::AboveLemmas::above_steps))]
+/// many bytes. One to three slices have a call of their own, without a loop over slices.
 pub(crate) fn lanes_above(bytes: &[u8], slices: usize, most: u64) -> Plane
+    requires size { 512 * slices ≤ length bytes.now }
+    requires within_limit { slices ≤ 8 }
+    requires most { most < 2 ^ (8 * slices) }
+    ensures { lanes_of_words result ≡ map (nat_lt most) (slices_codes slices bytes.now) }
+{
+    match slices {
+        1 => above_by(bytes, 1, most),
+        2 => above_by(bytes, 2, most),
+        3 => above_by(bytes, 3, most),
+        _ => above_by(bytes, slices, most),
+    }
+}
+
+/// Does this for any number of slices.
+#[tactic(auto, using(crate::proofs::AboveLemmas::above_steps))]
+#[inline(always)]
+fn above_by(bytes: &[u8], slices: usize, most: u64) -> Plane
     requires size { 512 * slices ≤ length bytes.now }
     requires within_limit { slices ≤ 8 }
     requires most { most < 2 ^ (8 * slices) }

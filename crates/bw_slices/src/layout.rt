@@ -2,6 +2,7 @@
 ghost use Rattle.bw_slices.specs.Slices.{slice_packing};
 
 use crate::any_code::{is_any_above, is_any_nonzero};
+use crate::beyond::none_beyond;
 use crate::codes_above::lanes_above;
 use crate::extremes::chosen_code;
 use crate::read::{slice_of, slices_in};
@@ -16,6 +17,10 @@ use bw_segment::{CodeLayout, Extreme, bytes_of, push_byte, put_byte};
 /// The most lanes whose codes are added one by one, which takes less time than to add the bytes of
 /// all lanes.
 const FEW: u32 = 24;
+
+/// The most lanes whose highest bytes are compared one by one with that of a minimum or a maximum.
+/// The highest byte of one of more codes is often the same, and more bytes are compared.
+const SOME: u32 = 16;
 
 /// Codes stored as byte slices. For each byte of the codes, from the most significant down, there
 /// are 512 bytes, of which byte i is lane i's.
@@ -105,6 +110,9 @@ impl CodeLayout for Slices {
         other: u64,
         which: Extreme,
     ) -> bool {
+        if count(lanes) > SOME {
+            return none_beyond(width, bytes, lanes, other, which);
+        }
         let slice = slices_in(width) - 1;
         let top = other >> (8 * slice);
         none_near(slice_of(width, bytes, slice), lanes, top, which)

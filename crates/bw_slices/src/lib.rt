@@ -20,6 +20,7 @@
 #![tactic(auto)]
 
 mod any_code;
+mod beyond;
 mod codes_above;
 mod extremes;
 mod layout;

@@ -1,5 +1,5 @@
 -- With the bit that was compared last, all are.
-use Rattle.std.proofs.Common.{◌∙◌, ◌+◌, ◌/◌, ◌^◌, ◌==◌, ◌&&◌, sym, ap, ap₂, bit_and, cond, eqb, not}
+use Rattle.std.proofs.Common.{◌∙◌, ◌/◌, ◌^◌, ◌==◌, ◌&&◌, sym, ap, ap₂, bit_and, cond, eqb, not}
 use lib.Lanes.{zip2}
 use Rattle.bw_planes.specs.Planes.{planes_codes}
 use Rattle.bw_planes.proofs.CompareLemmas.{compared_in, equal_more}
