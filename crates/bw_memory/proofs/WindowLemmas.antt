@@ -4,7 +4,7 @@ use Rattle.std.proofs.Common.{Vec, Global, List, [], ◌∷◌, ◌++◌, flat_m
 use Rattle.std.specs.Prelude.{IfSome}
 use Rattle.std.specs.List.{range_with_len}
 use Rattle.std.proofs.lemmas.Bool.{cases_Bool, cases_eq, cases_lt, le-ltb, lt-ltb}
-use Rattle.std.proofs.lemmas.List.FromFn.{get_or-range_with_len, length-range_with_len, map-range_with_len_more}
+use Rattle.std.proofs.lemmas.List.FromFn.{get_or-range_with_len, length-range_with_len, map-range_with_len_more, sum_by-map-range_with_len_more}
 use Rattle.bw_model.specs.declared.column.Column.{Column}
 use Rattle.bw_model.specs.Groups.{group_size}
 use Rattle.bw_model.specs.Row.{Value}
@@ -27,7 +27,7 @@ use Rattle.bw_memory.specs.Columns.{IsBlank, block_in}
 use Rattle.bw_memory.specs.Filling.{AreBytesAt}
 use Rattle.bw_memory.specs.MemoryTable.{groups_in, layout_of, placement_of, schema_of, segments_in}
 use Rattle.bw_memory.specs.StoredSegments.{StoresSegments, piece_of, rows_numbered, stored_group, stored_groups}
-use Rattle.bw_memory.specs.Windows.{HasGroups, HasPartsBefore, IsPart, IsSegmentRead, first_in, group_spelled, window_in}
+use Rattle.bw_memory.specs.Windows.{HasGroups, HasPartsBefore, IsPart, IsSegmentRead, first_in, group_spelled, sum_read, window_in}
 use Rattle.bw_memory.proofs.ColumnarLemmas.{few_segments, groups_cut, pieces_known, replaced_column, replaced_stored, small_product, valid_from}
 use Rattle.bw_memory.proofs.ReadColumnLemmas.{replaced}
 use Rattle.bw_memory.proofs.ReadColumnsLemmas.{added, none_read, not_needed}
@@ -71,6 +71,14 @@ is_part columnar first most table layout placement within rows = record {
 pub has_segment : (table : MemoryTable) → 1 ≤ table.rows → 1 ≤ segments_in table
 unfolding group_size
 has_segment table some = omega (arith, table.kept.all)
+
+-- and no more segments than its rows need
+pub at_most : (table : MemoryTable) (most : ℕ) → table.rows ≤ 512 * most → segments_in table ≤ most
+unfolding group_size
+at_most table most few = elim (cases_lt most table.segments) [
+  | inl more ↦ omega (arith, table.kept.nonempty most more, few)
+  | inr within ↦ within
+]
 
 -- the blocks of a window's column are those of the file
 pub window_block : (known : Option (List ℕ)) (columnar : ColumnarTable) (first : ℕ) (table : MemoryTable) → IsPart columnar first table → (col at number : ℕ) (read block : List ℕ)
@@ -387,3 +395,8 @@ module _ (known : Option (List ℕ)) (columnar : ColumnarTable) (read : ℕ → 
     whole_groups =
         map_alike (group_spelled columnar blocks) (stored_group whole.layout columns whole.rows all_made.kept.items) 0 segments
         (λ number from to. ap (rows_spelled whole.layout columns (rows_numbered whole.rows number)) (segment_is number (omega (arith, to))))
+
+-- one more column adds its number, if it is read
+pub sum_read_more : (read : ℕ → Bool) (number : ℕ → ℕ) (count : ℕ)
+    → sum_read read number (count + 1) ≡ sum_read read number count + cond (read count) (number count) 0
+sum_read_more read number count = sum_by-map-range_with_len_more (λ n. n) (λ column. cond (read column) (number column) 0) 0 count count (omega arith)

@@ -1,6 +1,6 @@
 -- Some segments of a file by columns, one after another, and what those before an end spell.
-use Rattle.std.specs.Prelude.{◌≡◌, ◌+◌, ◌<◌, ◌≤◌, ℕ, Bool, List, [], Option, IfSome, None, false, true}
-use Rattle.std.specs.Prelude.{length, map}
+use Rattle.std.specs.Prelude.{◌≡◌, ◌+◌, ◌*◌, ◌/◌, ◌<◌, ◌≤◌, ℕ, Bool, List, [], Option, IfSome, None}
+use Rattle.std.specs.Prelude.{false, true, if◌then◌else◌, length, map, max, sum}
 use Rattle.std.specs.List.{flat_map, range_with_len}
 use Rattle.bw_model.specs.Row.{Value}
 use Rattle.bw_segment.specs.Packing.{block_bytes}
@@ -23,6 +23,24 @@ first_in window = window.first
 -- the number of segments before its end
 abbrev pub end_of : SegmentWindow → ℕ
 end_of window = window.first + segments_in window.table
+
+-- the most segments that it has
+abbrev pub most_in : SegmentWindow → ℕ
+most_in window = window.most
+
+-- the sum of a number of each of the first `count` columns of which `read` is true
+abbrev pub sum_read : (ℕ → Bool) → (ℕ → ℕ) → ℕ → ℕ
+sum_read read number count =
+    sum (map (λ column. if read column then number column else 0) (range_with_len 0 count))
+
+-- The most segments of a window: as many as have 128 KiB in the columns that are read, or 8 KiB for
+-- each of these columns if that is more; and at least one.
+abbrev pub most_at_once : ColumnarTable → (ℕ → Bool) → ℕ
+most_at_once columnar read =
+    let table = table_in columnar in
+    let size = sum_read read (block_size (layout_of table) (schema_of table).columns.items)
+    (column_count columnar) in
+    max (max 131072 (8192 * sum_read read (λ _. 1) (column_count columnar)) / max size 8) 1
 
 -- A table has as many rows in each segment as the file in the segment that many further on.
 pub record IsPart (columnar : ColumnarTable) (first : ℕ) (table : MemoryTable) : Type 0 where

@@ -4,6 +4,7 @@ ghost use Rattle.std.specs.Prelude.{IfErr, IfOk, IfSome, OnOk, IsOkUnless, lengt
 ghost use Rattle.bw_model.specs.Fault.{no_memory};
 ghost use Rattle.bw_model.specs.Limits.{most_rows};
 ghost use Rattle.bw_io.specs.Source.{failed_by};
+ghost use Rattle.bw_segment.specs.ColumnBlocks.{bytes_kept};
 ghost use Rattle.bw_file.specs.Blocks.{IsPlaced, block_fault, block_size};
 ghost use Rattle.bw_file.specs.TableReading.{IsTableFault};
 ghost use Rattle.bw_memory.specs.Columns.{IsBlank, IsBlocksFault, IsFirstFault, block_in};
@@ -26,7 +27,7 @@ use std::rc::Rc;
 impl MemoryTable {
     /// Returns a table of so many rows, at most 2^24, each of which has the minimum of each column.
     /// Errors: 801 if memory is refused.
-    pub(crate) fn unread(
+    pub(crate) fn blank_under(
         alloc: Global,
         layout: Layout,
         schema: &Schema,
@@ -144,7 +145,7 @@ impl MemoryTable {
     }
 
     /// Puts blocks in place of those of a column: those of all segments, back to back, each of which
-    /// must be valid. Returns the bytes of those that it had.
+    /// must be valid. Returns the bytes that it had.
     pub(crate) fn replace_column(&mut self, alloc: Global, col: usize, blocks: Vec<u8>) -> Vec<u8>
         requires column { col < length (schema_of self.old).columns.items }
         requires long { length blocks.items ≡ segments_in self.old
@@ -154,6 +155,7 @@ impl MemoryTable {
             (rows_numbered self.old.rows number) (piece_of blocks.items
             (block_size (layout_of self.old) (schema_of self.old).columns.items col) number)
             ≡ None }
+        ensures bytes { result.items ≡ bytes_kept self.old.columns.items col }
         ensures layout { layout_of self.new ≡ layout_of self.old }
         ensures schema { schema_of self.new ≡ schema_of self.old }
         ensures placement { placement_of self.new ≡ placement_of self.old }

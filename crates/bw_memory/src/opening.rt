@@ -67,7 +67,7 @@ impl ColumnarTable {
             FileOrder::ByColumns,
             &bytes,
         )?;
-        let table = MemoryTable::unread(alloc, header.layout, &header.schema, header.rows)?;
+        let table = MemoryTable::blank_under(alloc, header.layout, &header.schema, header.rows)?;
         let all = table.segments as u64 * segment_size(table.layout, &table.placement) as u64;
         if size < head + all {
             return Err(Fault::at_byte(code::TRUNCATED, size));

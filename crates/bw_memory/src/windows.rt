@@ -8,7 +8,8 @@ ghost use Rattle.bw_file.specs.TableReading.{IsTableFault};
 ghost use Rattle.bw_memory.specs.Columnar.{HasBlock, column_count, is_wanted, table_in};
 ghost use Rattle.bw_memory.specs.Columns.{IsBlank, block_in};
 ghost use Rattle.bw_memory.specs.MemoryTable.{layout_of, placement_of, segments_in};
-ghost use Rattle.bw_memory.specs.Windows.{IsPart, IsWindow, end_of, first_in, window_in};
+ghost use Rattle.bw_memory.specs.Windows.{IsPart, IsWindow, end_of, first_in, most_at_once, most_in};
+ghost use Rattle.bw_memory.specs.Windows.{window_in};
 
 use crate::columnar::ColumnarTable;
 use crate::segment_window::SegmentWindow;
@@ -34,6 +35,8 @@ impl SegmentWindow {
         ensures window { IfOk result (λ window. (known : Option (List ℕ))
             → IsWindow known columnar.now (is_wanted wanted.now) window) }
         ensures before { IfOk result (λ window. end_of window ≡ 0) }
+        ensures most { IfOk result (λ window.
+            most_in window ≡ most_at_once columnar.now (is_wanted wanted.now)) }
         ensures only_oom { IsOkUnless result no_memory }
     {
         Ok(SegmentWindow {
@@ -80,6 +83,8 @@ impl SegmentWindow {
             (is_wanted wanted.now) self.new) }
         ensures next { OnOk result (first_in self.new ≡ end_of self.old) }
         ensures some { OnOk result (1 ≤ segments_in (window_in self.new)) }
+        ensures few { OnOk result (segments_in (window_in self.new) ≤ most_in self.old) }
+        ensures most { OnOk result (most_in self.new ≡ most_in self.old) }
         ensures fault { IfErr result IsTableFault }
         ensures same { (D.state device.new).known ≡ (D.state device.old).known }
         ensures count { (D.state device.new).failures
@@ -100,6 +105,8 @@ impl SegmentWindow {
         requires part { IsPart columnar.now (first_in self.old) (window_in self.old) }
         ensures next { OnOk result (first_in self.new ≡ end_of self.old) }
         ensures some { OnOk result (1 ≤ segments_in (window_in self.new)) }
+        ensures few { OnOk result (segments_in (window_in self.new) ≤ most_in self.old) }
+        ensures most { OnOk result (most_in self.new ≡ most_in self.old) }
         ensures part { OnOk result (IsPart columnar.now (first_in self.new) (window_in self.new)) }
         ensures blank { OnOk result ((window_in self.new ≡ window_in self.old)
             ⊎ IsBlank (window_in self.new)) }
@@ -135,6 +142,7 @@ impl SegmentWindow {
             → block_in (window_in self.new) number other
             ≡ block_in (window_in self.old) number other) }
         ensures first { OnOk result (first_in self.new ≡ first_in self.old) }
+        ensures most { OnOk result (most_in self.new ≡ most_in self.old) }
         ensures segments { OnOk result
             (segments_in (window_in self.new) ≡ segments_in (window_in self.old)) }
         ensures layout { OnOk result (layout_of (window_in self.new) ≡ layout_of (window_in self.old)) }
@@ -177,11 +185,10 @@ impl ColumnarTable {
     }
 }
 
-/// Returns how many segments a window has, given the columns that are wanted: at least one, and as
-/// many as it has room for.
+/// Returns how many segments a window has at most, given the columns that are wanted.
 fn segments_at_once(columnar: &ColumnarTable, wanted: &[bool]) -> u32
     requires { length wanted.now ≡ column_count columnar.now }
-    ensures { 1 ≤ result }
+    ensures { result ≡ most_at_once columnar.now (is_wanted wanted.now) }
 {
     let table = &columnar.table;
     let (mut count, mut size) = (0, 0);

@@ -2,7 +2,7 @@
 use Rattle.std.proofs.Common.{◌+◌, arith}
 use Rattle.bw_model.specs.Groups.{group_size}
 use Rattle.bw_memory.proofs.ColumnarLemmas.{few_segments}
-use Rattle.bw_memory.proofs.WindowLemmas.{has_segment, is_part}
+use Rattle.bw_memory.proofs.WindowLemmas.{at_most, has_segment, is_part}
 use Rattle.bw_memory.proofs.segment_window.SegmentWindow.pass.Goals as goal
 
 pub overflow_add-first : goal.overflow_add-first
@@ -59,3 +59,11 @@ returns-clause-part c =
     let self = c.args.self.now in
     let made = c.in_ok-self.ensures in
     is_part c.args.columnar.now (self.first + self.table.segments) c.min-most.result c.in_ok-self.field-0 made.layout made.placement (omega (arith, c.min-most.ensures, c.requires.more)) (omega (arith, made.rows, c.min-rows.ensures))
+
+pub returns-then-rows-self-clause-few : goal.returns-then-rows-self-clause-few
+returns-then-rows-self-clause-few c =
+    at_most c.args.self.now.table c.args.self.now.most (omega (arith, c.if-rows-self.true, c.min-rows.ensures, c.min-most.ensures))
+
+pub returns-clause-few : goal.returns-clause-few
+returns-clause-few c =
+    at_most c.in_ok-self.field-0 c.args.self.now.most (omega (arith, c.in_ok-self.ensures.rows, c.min-rows.ensures, c.min-most.ensures))

@@ -14,6 +14,8 @@ loop-col-preserved g c =
             parts = parts_added _ _ _ c.loop-col.self w.read_column.new.self c.loop-col.col so_far.parts w.if-wanted-col.true (rw so_far.known at made.read) made.others made.first made.segments made.layout made.placement made.rows;
             next = made.first ∙ so_far.next;
             some = omega (arith, made.segments, so_far.some);
+            few = omega (arith, made.segments, so_far.few);
+            most = made.most ∙ so_far.most;
             known = made.same ∙ so_far.known;
             failures = omega (arith, made.count, so_far.failures);
           })
@@ -22,6 +24,8 @@ loop-col-preserved g c =
             parts = parts_passed _ _ _ c.loop-col.self c.loop-col.col so_far.parts w.if-wanted-col.false;
             next = so_far.next;
             some = so_far.some;
+            few = so_far.few;
+            most = so_far.most;
             known = so_far.known;
             failures = so_far.failures;
           })
