@@ -35,7 +35,7 @@ pub fn run_encode<'a>(
     let mut csv = open(rt, csv_path)?;
     let hasher = match RandomState::new(rt) {
         Ok(hasher) => hasher,
-        Err(error) => return Err(CommandFailure::unread("random bytes", error)),
+        Err(error) => return Err(CommandFailure::unreadable("random bytes", error)),
     };
     let mut source = FromRead::new(&mut csv);
     let mut fields = OutFile::new(rt, fields);

@@ -103,7 +103,7 @@ fn print_lines(rt: &HostRuntime, file: &str, said: Option<String>) -> bool {
 
 /// Prints where in a file an error is, or why the system failed to read or to write it.
 fn explain_place(rt: &HostRuntime, ended: &CommandFailure<'_>, file: &str) {
-    let _ = match (ended.fault.code, ended.fault.place, ended.unread) {
+    let _ = match (ended.fault.code, ended.fault.place, ended.failed_file) {
         (code::READ_FAILED, _, Some((_, Reads::Changed))) => {
             eprintln!(rt; "    {} changed while it was read", file)
         }
@@ -147,7 +147,7 @@ fn file_of<'a>(words: &CommandArgs<'a>, ended: &CommandFailure<'a>) -> Option<&'
         (300..400, _) => words.table(),
         (code::NO_PROGRAM, _) => None,
         (500..700, _) => ended.program.or(words.program()),
-        (code::READ_FAILED, _) => ended.unread.map(|(path, _)| path),
+        (code::READ_FAILED, _) => ended.failed_file.map(|(path, _)| path),
         (code::WRITE_FAILED, _) => Some(words.out().unwrap_or("standard output")),
         _ => None,
     }

@@ -21,7 +21,7 @@ pub enum Reads {
 pub struct CommandFailure<'a> {
     pub fault: Fault,
     pub program: Option<&'a str>,
-    pub unread: Option<(&'a str, Reads)>,
+    pub failed_file: Option<(&'a str, Reads)>,
     pub write_error: Option<io::Error>,
 }
 
@@ -31,15 +31,15 @@ impl<'a> CommandFailure<'a> {
         CommandFailure {
             fault,
             program: None,
-            unread: None,
+            failed_file: None,
             write_error: None,
         }
     }
 
     /// Returns the failure of a command that couldn't open one of its files.
-    pub fn unread(path: &'a str, error: io::Error) -> Self {
+    pub fn unreadable(path: &'a str, error: io::Error) -> Self {
         CommandFailure {
-            unread: Some((path, Reads::Failed(error))),
+            failed_file: Some((path, Reads::Failed(error))),
             ..CommandFailure::new(Fault::new(code::READ_FAILED))
         }
     }
@@ -51,7 +51,7 @@ impl<'a> CommandFailure<'a> {
             .iter()
             .find(|(_, reads)| !matches!(reads, Reads::Good));
         CommandFailure {
-            unread: failed.copied(),
+            failed_file: failed.copied(),
             write_error,
             ..CommandFailure::new(fault)
         }

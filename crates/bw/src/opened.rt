@@ -17,7 +17,7 @@ const PIECE: usize = 128 * 1024;
 pub fn open<'a>(rt: &HostRuntime, path: &'a str) -> Result<InFile, CommandFailure<'a>> {
     match File::open(rt, path) {
         Ok(file) => Ok(InFile::new(file)),
-        Err(error) => Err(CommandFailure::unread(path, error)),
+        Err(error) => Err(CommandFailure::unreadable(path, error)),
     }
 }
 

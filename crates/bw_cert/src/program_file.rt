@@ -30,11 +30,11 @@ pub fn split_file(file: &[u8]) -> ProgramFile<'_>
         if divides(line) {
             return ProgramFile {
                 program: &file[..read],
-                certificate: lines.unread(),
+                certificate: lines.rest(),
                 first_line: lines.number(),
             };
         }
-        read = file.len() - lines.unread().len();
+        read = file.len() - lines.rest().len();
     }
     ProgramFile {
         program: file,

@@ -136,11 +136,11 @@ module _ (facts : Facts) (end : ℕ) where
       by None None keeps first more = ap (λ (fields : List BodyFields). Ok (kept, fields)) same
       by (Some k) (Some l) keeps first more =
           let fields : keep_fields k ≡ keep_fields l = cc in
-          let judged : is_valid_keep facts through edges least k ≡ is_valid_keep facts through edges least l = kept-said facts through edges least k ∙ ap (kept_said facts through edges least) fields ∙ sym (kept-said facts through edges least l) in
+          let checked : is_valid_keep facts through edges least k ≡ is_valid_keep facts through edges least l = kept-said facts through edges least k ∙ ap (kept_said facts through edges least) fields ∙ sym (kept-said facts through edges least l) in
           let register : k.register ≡ l.register = ap (λ (f : KeepFields). f.register) fields in
           let node : k.node ≡ l.node = ap (λ (f : KeepFields). f.node) fields in
           refused-same (not (is_valid_keep facts through edges least k)) (at_line 608 line.line) _ _ (more (suc k.register) (with_node kept k.register k.node))
-          ∙ ap₂ (λ b at. line_fields (refused_if (not b) (at_line 608 at) (keeps_taken facts through edges (suc k.register) (with_node kept k.register k.node) others))) judged (ap (λ (f : BodyFields). f.line) first)
+          ∙ ap₂ (λ b at. line_fields (refused_if (not b) (at_line 608 at) (keeps_taken facts through edges (suc k.register) (with_node kept k.register k.node) others))) checked (ap (λ (f : BodyFields). f.line) first)
           ∙ ap₂ (λ r n. line_fields (refused_if (not (is_valid_keep facts through edges least l)) (at_line 608 other.line) (keeps_taken facts through edges (suc r) (with_node kept r n) others))) register node
       by _ _ keeps first more = cc
   keeps-same through edges least kept _ _ same = cc

@@ -36,7 +36,7 @@ const fn unfit(line: u64) -> Fault
 }
 
 /// Returns the node that a line shows, or the error of a line that shows none.
-fn shown(line: u64, node: Option<u64>) -> Result<u64, Fault>
+fn node_on_line(line: u64, node: Option<u64>) -> Result<u64, Fault>
     ensures node { result ≡ found_on INSTRUCTION_LINE line node }
     ensures code { IfErr result (λ fault. IsTrue (is_known_fault fault)) }
 {
@@ -123,9 +123,13 @@ impl LineChecker<'_> {
     {
         match instr {
             Instr::Load(r, col, bit) => {
-                set_register(known, r, shown(line, self.plane(col, bit, given)))
+                set_register(known, r, node_on_line(line, self.plane(col, bit, given)))
             }
-            Instr::Nulls(r, col) => set_register(known, r, shown(line, self.nulls(col, given))),
+            Instr::Nulls(r, col) => set_register(
+                known,
+                r,
+                node_on_line(line, self.nulls(col, given)),
+            ),
             Instr::Fill(r, bit) => fill(known, line, r, bit, given),
             Instr::And(r, x, y) => {
                 let node = self.operation_node(known, line, Connective::And, x, y, given);
@@ -145,11 +149,11 @@ impl LineChecker<'_> {
             }
             Instr::ByteLt(r, col, slice, k) => {
                 let node = self.byte(ChainKind::Less, col, slice, k, given);
-                set_register(known, r, shown(line, node))
+                set_register(known, r, node_on_line(line, node))
             }
             Instr::ByteEq(r, col, slice, k) => {
                 let node = self.byte(ChainKind::Equal, col, slice, k, given);
-                set_register(known, r, shown(line, node))
+                set_register(known, r, node_on_line(line, node))
             }
             Instr::Skip(x, _) => check_skip(known, line, x, given),
         }
@@ -214,7 +218,7 @@ impl LineChecker<'_> {
         };
         let a = read(known, line, x)?;
         let b = read(known, line, y)?;
-        shown(line, self.diagram.product_node(op, a, b, row))
+        node_on_line(line, self.diagram.product_node(op, a, b, row))
     }
 
     /// Returns the node of a register's complement.
@@ -233,7 +237,7 @@ impl LineChecker<'_> {
             return Err(unfit(line));
         };
         let a = read(known, line, x)?;
-        shown(line, self.diagram.product_node(Connective::Diff, 1, a, row))
+        node_on_line(line, self.diagram.product_node(Connective::Diff, 1, a, row))
     }
 
     /// Returns the node of a byte comparison, if the line shows it.

@@ -45,7 +45,7 @@ pub fn known_at_end<'a>(
     end: u64,
 ) -> Result<AtEnd<'a>, Fault>
     requires { diagram.now.columns ≡ schema.now.columns.items }
-    ensures judged { MatchesUnlessOom (λ at. record { known = at.known; rest = body_lines at.rest })
+    ensures checked { MatchesUnlessOom (λ at. record { known = at.known; rest = body_lines at.rest })
         result (check_lines diagram.now program.now.instrs end (body_lines lines.entry)) }
     ensures code { IfErr result (λ fault. IsTrue (is_known_fault fault)) }
 {

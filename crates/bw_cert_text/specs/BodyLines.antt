@@ -5,4 +5,4 @@ use Rattle.bw_cert_text.specs.declared.lines.BodyLine.{BodyLine}
 use Rattle.bw_cert_text.specs.StoredLines.{lines_of}
 
 unfoldable pub body_lines : BodyLines → List BodyLine
-body_lines body = lines_of body.kinds.now body.numbers.now body.pairs.now
+body_lines body = lines_of body.forms.now body.numbers.now body.pairs.now

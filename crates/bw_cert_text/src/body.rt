@@ -5,19 +5,19 @@ ghost use Rattle.bw_cert_text.specs.StoredLines.{line_of, entry_of, condition_of
 ghost use Rattle.bw_cert_text.specs.declared.lines.Entry.TheVariants as said;
 
 use crate::edge_pairs::EdgePairs;
-use crate::kind::{KeptRegister, Kind};
 use crate::lines::{BodyLine, ConditionEntry, EdgeProducts, Entry, InstructionEntry, Keep};
+use crate::stored_form::{KeptRegister, StoredForm};
 use std::alloc::{AllocError, Global};
 use std::marker::Model;
 
 /// The lines of conditions, instructions and joins, in order.
 ///
-/// A line has four bytes for its kind, eight for its own number and for each number on it, and
+/// A line has four bytes for its form, eight for its own number and for each number on it, and
 /// eight for the number of a line KEEP's pairs. As a number has at least two bytes of text, a digit
 /// and a blank, that is at most four bytes for each byte of the text.
 #[derive(Drop)]
 pub struct Body {
-    kinds: Vec<Kind>,
+    forms: Vec<StoredForm>,
     /// The numbers of all lines, one line after another: each line's own, then those on it.
     numbers: Vec<u64>,
     /// The pairs of all lines KEEP, one line after another.
@@ -31,10 +31,10 @@ impl Model for Body {
 
     ghost Value = { List BodyLine };
 
-    ghost view = { λ body. lines_of body.kinds.items body.numbers.items body.pairs.items };
+    ghost view = { λ body. lines_of body.forms.items body.numbers.items body.pairs.items };
 
     ghost invariant = { λ body. IsTrue
-        (are_all body.kinds.items body.numbers.items body.pairs.items) };
+        (are_all body.forms.items body.numbers.items body.pairs.items) };
 }
 
 impl Body {
@@ -47,7 +47,7 @@ impl Body {
         ensures { result ≡ [] }
     {
         Body {
-            kinds: Vec::new(alloc),
+            forms: Vec::new(alloc),
             numbers: Vec::new(alloc),
             pairs: Vec::new(alloc),
         }
@@ -59,7 +59,7 @@ impl Body {
         ensures { body_lines result ≡ self.now }
     {
         BodyLines {
-            kinds: self.kinds.as_slice(),
+            forms: self.forms.as_slice(),
             numbers: self.numbers.as_slice(),
             pairs: self.pairs.as_slice(),
         }
@@ -69,7 +69,7 @@ impl Body {
     pub fn len(&self) -> usize
         ensures { result ≡ length self.now }
     {
-        self.kinds.len()
+        self.forms.len()
     }
 
     /// Adds a line. Fails if memory is refused; the lines are then as they were.
@@ -79,7 +79,7 @@ impl Body {
         match &line.entry {
             Entry::Condition(entry) => self.push_condition(line.line, *entry),
             Entry::Instruction(entry) => self.push_instruction(line.line, *entry),
-            Entry::Join(target) => self.put(Kind::Join, &[line.line, *target], &[]),
+            Entry::Join(target) => self.put(StoredForm::Join, &[line.line, *target], &[]),
             Entry::Keep(keep) => self.push_keep(line.line, keep),
         }
     }
@@ -96,12 +96,12 @@ impl Body {
                 yes,
                 no,
             } => {
-                let kind = Kind::Compare {
+                let form = StoredForm::Compare {
                     chain: chain.is_some(),
                     value: value.is_some(),
                 };
                 let (chain, value) = (chain.unwrap_or(0), value.unwrap_or(0));
-                self.put(kind, &[line, chain, value, yes, no], &[])
+                self.put(form, &[line, chain, value, yes, no], &[])
             }
             ConditionEntry::CompareColumns {
                 chain,
@@ -111,22 +111,22 @@ impl Body {
                 yes,
                 no,
             } => {
-                let kind = Kind::CompareColumns {
+                let form = StoredForm::CompareColumns {
                     chain: chain.is_some(),
                     left: left.is_some(),
                     right: right.is_some(),
                 };
                 let chain = chain.unwrap_or(0);
                 let (left, right) = (left.unwrap_or(0), right.unwrap_or(0));
-                self.put(kind, &[line, chain, left, right, both, yes, no], &[])
+                self.put(form, &[line, chain, left, right, both, yes, no], &[])
             }
-            ConditionEntry::Fixed => self.put(Kind::Fixed, &[line], &[]),
-            ConditionEntry::NullTest(i) => self.put(Kind::NullTest, &[line, i], &[]),
-            ConditionEntry::And(i, j) => self.put(Kind::And, &[line, i, j], &[]),
-            ConditionEntry::Or(i, j) => self.put(Kind::Or, &[line, i, j], &[]),
-            ConditionEntry::Not => self.put(Kind::Not, &[line], &[]),
-            ConditionEntry::Is(i) => self.put(Kind::Is, &[line, i], &[]),
-            ConditionEntry::IsUnknown(i, j) => self.put(Kind::IsUnknown, &[line, i, j], &[]),
+            ConditionEntry::Fixed => self.put(StoredForm::Fixed, &[line], &[]),
+            ConditionEntry::NullTest(i) => self.put(StoredForm::NullTest, &[line, i], &[]),
+            ConditionEntry::And(i, j) => self.put(StoredForm::And, &[line, i, j], &[]),
+            ConditionEntry::Or(i, j) => self.put(StoredForm::Or, &[line, i, j], &[]),
+            ConditionEntry::Not => self.put(StoredForm::Not, &[line], &[]),
+            ConditionEntry::Is(i) => self.put(StoredForm::Is, &[line, i], &[]),
+            ConditionEntry::IsUnknown(i, j) => self.put(StoredForm::IsUnknown, &[line, i, j], &[]),
         }
     }
 
@@ -136,16 +136,16 @@ impl Body {
             ++ record { line = line; entry = said.Instruction entry } ∷ [] else self.old) }
     {
         match entry {
-            InstructionEntry::Load(node) => self.put(Kind::Load, &[line, node], &[]),
-            InstructionEntry::Fill => self.put(Kind::Fill, &[line], &[]),
-            InstructionEntry::Op(i) => self.put(Kind::Op, &[line, i], &[]),
+            InstructionEntry::Load(node) => self.put(StoredForm::Load, &[line, node], &[]),
+            InstructionEntry::Fill => self.put(StoredForm::Fill, &[line], &[]),
+            InstructionEntry::Op(i) => self.put(StoredForm::Op, &[line, i], &[]),
             InstructionEntry::Byte(chain) => {
-                let kind = Kind::Byte {
+                let form = StoredForm::Byte {
                     chain: chain.is_some(),
                 };
-                self.put(kind, &[line, chain.unwrap_or(0)], &[])
+                self.put(form, &[line, chain.unwrap_or(0)], &[])
             }
-            InstructionEntry::Skip => self.put(Kind::Skip, &[line], &[]),
+            InstructionEntry::Skip => self.put(StoredForm::Skip, &[line], &[]),
         }
     }
 
@@ -155,35 +155,40 @@ impl Body {
             ++ record { line = line; entry = said.Keep keep.now } ∷ [] else self.old) }
     {
         let pairs = keep.edges.as_slice();
-        let kind = Kind::Keep(KeptRegister {
+        let form = StoredForm::Keep(KeptRegister {
             register: keep.register,
         });
         let numbers = [line, keep.node, keep.through, pairs.len() as u64];
-        self.put(kind, &numbers, pairs)
+        self.put(form, &numbers, pairs)
     }
 
-    /// Adds a line of this kind, with these numbers and pairs.
-    fn put(&mut self, kind: Kind, numbers: &[u64], pairs: &[EdgeProducts]) -> Result<(), AllocError>
-        requires numbers { length numbers.now ≡ size kind }
-        requires pairs { length pairs.now ≡ pairs_of kind numbers.now }
+    /// Adds a line of this form, with these numbers and pairs.
+    fn put(
+        &mut self,
+        form: StoredForm,
+        numbers: &[u64],
+        pairs: &[EdgeProducts],
+    ) -> Result<(), AllocError>
+        requires numbers { length numbers.now ≡ size form }
+        requires pairs { length pairs.now ≡ pairs_of form numbers.now }
         ensures { self.new ≡ (if is_ok result then self.old
-            ++ line_of kind numbers.now pairs.now ∷ [] else self.old) }
+            ++ line_of form numbers.now pairs.now ∷ [] else self.old) }
     {
-        self.kinds.reserve(1)?;
+        self.forms.reserve(1)?;
         self.numbers.reserve(numbers.len())?;
         self.pairs.extend_from_slice(pairs)?;
         self.numbers.extend_from_slice(numbers)?;
-        self.kinds.push(kind)?;
+        self.forms.push(form)?;
         Ok(())
     }
 }
 
-/// Returns how many pairs a line of this kind has.
-fn pairs_in(kind: Kind, numbers: &[u64]) -> u64
-    ensures { result ≡ pairs_of kind numbers.now }
+/// Returns how many pairs a line of this form has.
+fn pairs_in(form: StoredForm, numbers: &[u64]) -> u64
+    ensures { result ≡ pairs_of form numbers.now }
 {
-    match (kind, numbers) {
-        (Kind::Keep(_), [_, _, _, count]) => *count,
+    match (form, numbers) {
+        (StoredForm::Keep(_), [_, _, _, count]) => *count,
         _ => 0,
     }
 }
@@ -191,7 +196,7 @@ fn pairs_in(kind: Kind, numbers: &[u64]) -> u64
 /// Lines that are still unread.
 #[derive(Clone, Copy)]
 pub struct BodyLines<'a> {
-    pub(crate) kinds: &'a [Kind],
+    pub(crate) forms: &'a [StoredForm],
     pub(crate) numbers: &'a [u64],
     pub(crate) pairs: &'a [EdgeProducts],
 }
@@ -204,18 +209,18 @@ impl<'a> BodyLines<'a> {
         ensures cases { MatchOption result (body_lines self.entry ≡ [])
             (λ next. body_lines self.entry ≡ next.0 ∷ body_lines next.1) }
     {
-        let (kind, kinds) = self.kinds.split_first()?;
-        let (own, numbers) = self.numbers.split_at_checked(kind.size())?;
-        let count = pairs_in(*kind, own);
+        let (form, forms) = self.forms.split_first()?;
+        let (own, numbers) = self.numbers.split_at_checked(form.size())?;
+        let count = pairs_in(*form, own);
         if count > self.pairs.len() as u64 {
             return None;
         }
         let (edges, pairs) = self.pairs.split_at(count as usize);
-        let line = line_in(*kind, own, edges);
+        let line = line_in(*form, own, edges);
         Some((
             line,
             BodyLines {
-                kinds,
+                forms,
                 numbers,
                 pairs,
             },
@@ -223,51 +228,51 @@ impl<'a> BodyLines<'a> {
     }
 }
 
-/// Returns the line of this kind, with these numbers and pairs.
-fn line_in<'a>(kind: Kind, numbers: &[u64], pairs: &'a [EdgeProducts]) -> BodyLine<'a>
-    ensures { result ≡ line_of kind numbers.now pairs.now }
+/// Returns the line of this form, with these numbers and pairs.
+fn line_in<'a>(form: StoredForm, numbers: &[u64], pairs: &'a [EdgeProducts]) -> BodyLine<'a>
+    ensures { result ≡ line_of form numbers.now pairs.now }
 {
     match numbers {
         [line, rest @ ..] => BodyLine {
             line: *line,
-            entry: entry_in(kind, rest, pairs),
+            entry: entry_in(form, rest, pairs),
         },
         [] => BodyLine {
             line: 0,
-            entry: entry_in(kind, numbers, pairs),
+            entry: entry_in(form, numbers, pairs),
         },
     }
 }
 
-/// Returns the fields of a line of this kind, with these numbers after its own and these pairs.
-fn entry_in<'a>(kind: Kind, numbers: &[u64], pairs: &'a [EdgeProducts]) -> Entry<'a>
-    ensures { result ≡ entry_of kind numbers.now pairs.now }
+/// Returns the fields of a line of this form, with these numbers after its own and these pairs.
+fn entry_in<'a>(form: StoredForm, numbers: &[u64], pairs: &'a [EdgeProducts]) -> Entry<'a>
+    ensures { result ≡ entry_of form numbers.now pairs.now }
 {
-    match (kind, numbers) {
-        (Kind::Join, [target]) => Entry::Join(*target),
-        (Kind::Keep(kept), [node, through, _]) => Entry::Keep(Keep {
+    match (form, numbers) {
+        (StoredForm::Join, [target]) => Entry::Join(*target),
+        (StoredForm::Keep(kept), [node, through, _]) => Entry::Keep(Keep {
             register: kept.register,
             node: *node,
             through: *through,
             edges: EdgePairs::new(pairs),
         }),
-        (Kind::Load, [node]) => Entry::Instruction(InstructionEntry::Load(*node)),
-        (Kind::Fill, []) => Entry::Instruction(InstructionEntry::Fill),
-        (Kind::Op, [i]) => Entry::Instruction(InstructionEntry::Op(*i)),
-        (Kind::Byte { chain: c }, [chain]) => {
+        (StoredForm::Load, [node]) => Entry::Instruction(InstructionEntry::Load(*node)),
+        (StoredForm::Fill, []) => Entry::Instruction(InstructionEntry::Fill),
+        (StoredForm::Op, [i]) => Entry::Instruction(InstructionEntry::Op(*i)),
+        (StoredForm::Byte { chain: c }, [chain]) => {
             Entry::Instruction(InstructionEntry::Byte(c.then_some(*chain)))
         }
-        (Kind::Skip, []) => Entry::Instruction(InstructionEntry::Skip),
-        _ => Entry::Condition(condition_in(kind, numbers)),
+        (StoredForm::Skip, []) => Entry::Instruction(InstructionEntry::Skip),
+        _ => Entry::Condition(condition_in(form, numbers)),
     }
 }
 
 /// Returns the fields of the line of a condition's step.
-fn condition_in(kind: Kind, numbers: &[u64]) -> ConditionEntry
-    ensures { result ≡ condition_of kind numbers.now }
+fn condition_in(form: StoredForm, numbers: &[u64]) -> ConditionEntry
+    ensures { result ≡ condition_of form numbers.now }
 {
-    match (kind, numbers) {
-        (Kind::Compare { chain: c, value: v }, [chain, value, yes, no]) => {
+    match (form, numbers) {
+        (StoredForm::Compare { chain: c, value: v }, [chain, value, yes, no]) => {
             ConditionEntry::Compare {
                 chain: c.then_some(*chain),
                 value: v.then_some(*value),
@@ -276,7 +281,7 @@ fn condition_in(kind: Kind, numbers: &[u64]) -> ConditionEntry
             }
         }
         (
-            Kind::CompareColumns {
+            StoredForm::CompareColumns {
                 chain: c,
                 left: l,
                 right: r,
@@ -290,12 +295,12 @@ fn condition_in(kind: Kind, numbers: &[u64]) -> ConditionEntry
             yes: *yes,
             no: *no,
         },
-        (Kind::NullTest, [i]) => ConditionEntry::NullTest(*i),
-        (Kind::And, [i, j]) => ConditionEntry::And(*i, *j),
-        (Kind::Or, [i, j]) => ConditionEntry::Or(*i, *j),
-        (Kind::Not, []) => ConditionEntry::Not,
-        (Kind::Is, [i]) => ConditionEntry::Is(*i),
-        (Kind::IsUnknown, [i, j]) => ConditionEntry::IsUnknown(*i, *j),
+        (StoredForm::NullTest, [i]) => ConditionEntry::NullTest(*i),
+        (StoredForm::And, [i, j]) => ConditionEntry::And(*i, *j),
+        (StoredForm::Or, [i, j]) => ConditionEntry::Or(*i, *j),
+        (StoredForm::Not, []) => ConditionEntry::Not,
+        (StoredForm::Is, [i]) => ConditionEntry::Is(*i),
+        (StoredForm::IsUnknown, [i, j]) => ConditionEntry::IsUnknown(*i, *j),
         _ => ConditionEntry::Fixed,
     }
 }

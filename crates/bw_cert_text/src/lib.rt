@@ -16,12 +16,12 @@ mod body;
 mod certificate;
 mod connective;
 mod edge_pairs;
-mod kind;
 mod line;
 mod lines;
 mod operand;
 mod parse;
 mod print;
+mod stored_form;
 
 pub use body::{Body, BodyLines};
 pub use certificate::Certificate;

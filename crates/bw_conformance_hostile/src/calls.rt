@@ -2,7 +2,7 @@
 //! conditions.
 ghost use Rattle.std.specs.Prelude.{◌<◌, ◌-◌, ◌^◌};
 
-use crate::devices::{Pieces, Taker};
+use crate::devices::{ByteSink, Pieces};
 use bw_file::{FromRead, Layout, ToWrite};
 use bw_model::Fault;
 use bw_shell::{By, answer, check_text, direct, dump, infer, info, load, plan_text};
@@ -65,7 +65,7 @@ impl Call<'_> {
         alloc: Global,
         reads: Reads,
         file: &[u8],
-        sink: &mut Taker,
+        sink: &mut ByteSink,
     ) -> Result<Option<By>, Fault>
         requires { sink.old.calls.failures < 2 ^ 64 - 1 }
     {

@@ -5,7 +5,7 @@ use crate::calls::{
     COUNT, COUNTED, CSV, Call, DUMP, HEADER_LEN, INFO, LAYOUTS, Reads, SCHEMA, plan_file,
     table_file,
 };
-use crate::devices::{Endless, Taker};
+use crate::devices::{ByteSink, Endless};
 use bw_file::{FromRead, Layout, ToWrite};
 use bw_model::{Fault, MAX_CSV_LEN, code};
 use bw_shell::{
@@ -25,7 +25,7 @@ fn check_writes(
 ) -> Result<(), Fail> {
     let whole = (text.len() as u64).saturating_add(1);
     for fail_at in 1..=whole {
-        let mut sink = Taker::new(Vec::new(rt.alloc()), 1, fail_at);
+        let mut sink = ByteSink::new(Vec::new(rt.alloc()), 1, fail_at);
         let outcome = call.make(rt.alloc(), Reads::WHOLE, file, &mut sink);
         let expected = if fail_at == whole {
             Ok(call.served_by())
@@ -80,7 +80,7 @@ fn check_reads(
         if source < 3 {
             fail_at[source] = fail;
         }
-        let mut sink = Taker::without_failures(Vec::new(rt.alloc()));
+        let mut sink = ByteSink::without_failures(Vec::new(rt.alloc()));
         let outcome = call.make(rt.alloc(), Reads { piece: 1, fail_at }, file, &mut sink);
         if fail == whole {
             assert_eq!(rt; outcome, Ok(call.served_by()), "source {source}");
@@ -118,7 +118,7 @@ fn each_read_may_fail(rt: HostRuntime) -> Result<(), Fail> {
 fn facts_need_the_header_alone(rt: HostRuntime) -> Result<(), Fail> {
     let file = table_file(rt.alloc(), Layout::Planes)?;
     for fail in 1..=HEADER_LEN + 1 {
-        let mut sink = Taker::without_failures(Vec::new(rt.alloc()));
+        let mut sink = ByteSink::without_failures(Vec::new(rt.alloc()));
         let reads = Reads {
             piece: 1,
             fail_at: [0, 0, fail],
@@ -142,7 +142,7 @@ fn facts_need_the_header_alone(rt: HostRuntime) -> Result<(), Fail> {
 fn a_statement_comes_before_the_segments(rt: HostRuntime) -> Result<(), Fail> {
     let file = table_file(rt.alloc(), Layout::Planes)?;
     for fail in 1..=100 {
-        let mut sink = Taker::without_failures(Vec::new(rt.alloc()));
+        let mut sink = ByteSink::without_failures(Vec::new(rt.alloc()));
         let reads = Reads {
             piece: 1,
             fail_at: [0, 0, fail],
@@ -264,7 +264,7 @@ enum Line {
 impl Line {
     /// Writes the line, and returns whether the call reports a failed write, which `report` never
     /// does.
-    fn write(self, rt: &impl Abort, sink: &mut Taker) -> bool
+    fn write(self, rt: &impl Abort, sink: &mut ByteSink) -> bool
         requires { sink.old.calls.failures ≡ 0 }
     {
         let served = Served {
@@ -310,7 +310,7 @@ fn each_write_of_a_line_may_fail(rt: HostRuntime) -> Result<(), Fail> {
     ] {
         let whole = (text.len() as u64).saturating_add(1);
         for fail_at in 1..=whole {
-            let mut sink = Taker::new(Vec::new(rt.alloc()), 1, fail_at);
+            let mut sink = ByteSink::new(Vec::new(rt.alloc()), 1, fail_at);
             let told = line.write(&rt, &mut sink);
             let fails = fail_at < whole;
             let silent = matches!(line, Line::Report);

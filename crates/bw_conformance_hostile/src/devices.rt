@@ -152,16 +152,16 @@ impl Source for Repeated<'_> {
 
 /// Stores the bytes that it consumed.
 #[derive(Drop)]
-pub struct Taker {
+pub struct ByteSink {
     pub taken: Vec<u8>,
     pub calls: Calls,
 }
 
-impl Taker {
+impl ByteSink {
     pub fn new(taken: Vec<u8>, piece: usize, fail_at: u64) -> Self
         ensures { result.calls.failures ≡ 0 }
     {
-        Taker {
+        ByteSink {
             taken,
             calls: Calls::new(piece, fail_at),
         }
@@ -171,11 +171,11 @@ impl Taker {
     pub fn without_failures(taken: Vec<u8>) -> Self
         ensures { result.calls.failures ≡ 0 }
     {
-        Taker::new(taken, usize::MAX, 0)
+        ByteSink::new(taken, usize::MAX, 0)
     }
 }
 
-impl Sink for Taker {
+impl Sink for ByteSink {
     ghost state = { λ s. sink_state None s.calls.failures };
 
     fn write(&mut self, bytes: &[u8]) -> Result<usize, Failed> {

@@ -1,6 +1,6 @@
 //! Texts that are as long or as deep as they may be, or longer.
 use crate::calls::{Call, LAYOUTS, Reads, SCHEMA, table_file};
-use crate::devices::Taker;
+use crate::devices::ByteSink;
 use bw_file::{FromRead, Layout, ToWrite};
 use bw_model::{Fault, code};
 use bw_shell::{answer, check_text, direct, load, plan_text};
@@ -52,7 +52,7 @@ fn long_statements_are_refused_alike(rt: HostRuntime) -> Result<(), Fail> {
         let sql = repeat_text(rt.alloc(), start, part, count, "")?;
         let sql = sql.as_str();
         for call in [Call::Direct(sql), Call::Answer(sql, None), Call::Plan(sql)] {
-            let mut sink = Taker::without_failures(Vec::new(rt.alloc()));
+            let mut sink = ByteSink::without_failures(Vec::new(rt.alloc()));
             let told = call.make(rt.alloc(), Reads::WHOLE, &file, &mut sink);
             assert_eq!(rt; told, Err(Fault::at_byte(code, at)), "{start}{part}");
             assert_eq!(rt; sink.calls.made, 0, "{start}{part}");
@@ -140,7 +140,7 @@ fn sixty_four_columns_of_63_bits_are_answered(rt: HostRuntime) -> Result<(), Fai
 }
 
 #[test]
-fn long_records_and_fields_are_judged(rt: HostRuntime) -> Result<(), Fail> {
+fn long_records_and_fields_are_checked(rt: HostRuntime) -> Result<(), Fail> {
     let sql = b"SELECT COUNT(*) FROM t WHERE a = 7".as_slice();
     // what the text begins with, what is repeated a million times, what it ends with, and the fault
     // at the first record

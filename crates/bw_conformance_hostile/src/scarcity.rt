@@ -3,7 +3,7 @@
 use crate::calls::{
     COUNT, COUNTED, Call, DUMP, INFO, LAYOUTS, Reads, SCHEMA, plan_file, table_file,
 };
-use crate::devices::Taker;
+use crate::devices::ByteSink;
 use bw_model::{Fault, code};
 use std::alloc::Global;
 use std::process::Abort;
@@ -51,7 +51,7 @@ fn check_with_all_memory_taken(
     answer: &[u8],
 ) -> Result<(), Fail> {
     // A call with all memory comes first: the stack can't grow once none is left.
-    let mut sink = Taker::without_failures(Vec::with_capacity(rt.alloc(), 16_384)?);
+    let mut sink = ByteSink::without_failures(Vec::with_capacity(rt.alloc(), 16_384)?);
     let first = call.make(rt.alloc(), Reads::WHOLE, file, &mut sink);
     assert_eq!(rt; first, Ok(call.served_by()));
     let mut output = sink.taken;
@@ -61,7 +61,7 @@ fn check_with_all_memory_taken(
     let mut outcome = Err(Fault::new(code::OUT_OF_MEMORY));
     for step in 1..LEFT / STEP {
         let plug: Result<Vec<u8>, _> = Vec::with_capacity(rt.alloc(), LEFT - step * STEP);
-        let mut sink = Taker::without_failures(output);
+        let mut sink = ByteSink::without_failures(output);
         outcome = call.make(rt.alloc(), Reads::WHOLE, file, &mut sink);
         output = sink.taken;
         drop(plug);

@@ -2,7 +2,7 @@
 ghost use Rattle.std.specs.Prelude.{◌<◌, ◌-◌, ◌^◌, None};
 
 use crate::calls::{LAYOUTS, plan_file, table_file};
-use crate::devices::{Pieces, Repeated, Taker};
+use crate::devices::{ByteSink, Pieces, Repeated};
 use crate::scarcity::{LEFT, STEP, take_all};
 use bw_file::{FromRead, Source};
 use bw_model::{Fault, code};
@@ -60,7 +60,7 @@ fn run_session<S: Source>(
     file: &[u8],
     program: &[u8],
     input: &mut S,
-    sink: &mut Taker,
+    sink: &mut ByteSink,
     counter: &mut Counter,
 ) -> Result<Option<Fault>, Fault>
     requires input { (S.state input.old).failures < 2 ^ 64 - 1 }
@@ -79,7 +79,7 @@ fn run_over<S: Source>(
     table: &mut MemoryTable,
     files: Vec<Vec<u8>>,
     input: &mut S,
-    sink: &mut Taker,
+    sink: &mut ByteSink,
     counter: &mut Counter,
 ) -> Result<Option<Fault>, Fault>
     requires input { (S.state input.old).failures < 2 ^ 64 - 1 }
@@ -98,7 +98,7 @@ fn run_text(
     program: &[u8],
     text: &[u8],
     piece: usize,
-    sink: &mut Taker,
+    sink: &mut ByteSink,
 ) -> Result<Option<Fault>, Fault>
     requires { sink.old.calls.failures < 2 ^ 64 - 1 }
 {
@@ -134,7 +134,7 @@ fn growths_of_a_session_are_refused(rt: HostRuntime) -> Result<(), Fail> {
     let mut outcome = Err(memory);
     for step in 1..LEFT / (8 * STEP) {
         let plug: Result<Vec<u8>, _> = Vec::with_capacity(rt.alloc(), LEFT - step * 8 * STEP);
-        let mut sink = Taker::without_failures(output);
+        let mut sink = ByteSink::without_failures(output);
         outcome = run_text(
             rt.alloc(),
             &file,
@@ -170,7 +170,7 @@ fn each_write_of_a_session_may_fail(rt: HostRuntime) -> Result<(), Fail> {
     for layout in LAYOUTS {
         let file = table_file(rt.alloc(), layout)?;
         for fail_at in 1..=whole {
-            let mut sink = Taker::new(Vec::new(rt.alloc()), 1, fail_at);
+            let mut sink = ByteSink::new(Vec::new(rt.alloc()), 1, fail_at);
             let text = STATEMENTS.as_bytes();
             let outcome = run_text(rt.alloc(), &file, &program, text, usize::MAX, &mut sink);
             let expected = if fail_at == whole {
@@ -193,7 +193,7 @@ fn each_read_of_a_session_may_fail(rt: HostRuntime) -> Result<(), Fail> {
     let file = table_file(rt.alloc(), LAYOUTS[1])?;
     for fail_at in 1..=STATEMENTS.len() as u64 {
         let mut input = Pieces::new(STATEMENTS.as_bytes(), 1, fail_at);
-        let mut sink = Taker::without_failures(Vec::new(rt.alloc()));
+        let mut sink = ByteSink::without_failures(Vec::new(rt.alloc()));
         let mut counter = Counter::new();
         let outcome = run_session(
             rt.alloc(),
@@ -224,7 +224,7 @@ fn an_unending_statement_is_too_long(rt: HostRuntime) -> Result<(), Fail> {
             left: 1 << 24,
             then: b";SELECT MAX(a) FROM t WHERE a < 8",
         };
-        let mut sink = Taker::without_failures(Vec::new(rt.alloc()));
+        let mut sink = ByteSink::without_failures(Vec::new(rt.alloc()));
         let mut counter = Counter::new();
         let outcome = run_session(
             rt.alloc(),
@@ -266,7 +266,7 @@ fn a_nul_is_no_end_of_a_statement(rt: HostRuntime) -> Result<(), Fail> {
                 "a\n8\n\n\n",
             ),
         ] {
-            let mut sink = Taker::without_failures(Vec::new(rt.alloc()));
+            let mut sink = ByteSink::without_failures(Vec::new(rt.alloc()));
             let outcome = run_text(rt.alloc(), &file, &program, text.as_bytes(), 3, &mut sink);
             let nul = Fault::at_byte(code::CHARACTER, place);
             assert_eq!(rt; outcome, Ok(Some(nul)), "{text:?}");
@@ -288,7 +288,7 @@ fn a_session_keeps_the_table_that_it_read(rt: HostRuntime) -> Result<(), Fail> {
             *byte = 255;
         }
         let mut input = Pieces::new(STATEMENTS.as_bytes(), usize::MAX, 0);
-        let mut sink = Taker::without_failures(Vec::new(rt.alloc()));
+        let mut sink = ByteSink::without_failures(Vec::new(rt.alloc()));
         let mut counter = Counter::new();
         let outcome = run_over(
             rt.alloc(),

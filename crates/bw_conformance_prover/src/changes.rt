@@ -2,7 +2,7 @@
 ghost use Rattle.std.specs.Prelude.{IfOk, IfSome, IsTrue, ◌<◌};
 ghost use Rattle.bw_program.specs.Program.{fits};
 
-use crate::judge::Case;
+use crate::case::Case;
 use bw_model::Schema;
 use bw_program::{Instr, Program};
 use std::alloc::{AllocError, Global};
@@ -10,7 +10,7 @@ use std::process::Abort;
 use std::test::Fail;
 
 /// Returns another instruction in place of one.
-fn changed(instr: Instr) -> Instr {
+fn change_operation(instr: Instr) -> Instr {
     match instr {
         Instr::Load(r, col, bit) => Instr::Load(r, col, bit ^ 1),
         Instr::Nulls(r, _) => Instr::Fill(r, false),
@@ -26,7 +26,7 @@ fn changed(instr: Instr) -> Instr {
 }
 
 /// Returns another instruction in place of one, with another register if it has more than one.
-fn misdirected(instr: Instr) -> Instr {
+fn change_register(instr: Instr) -> Instr {
     match instr {
         Instr::And(r, x, _) => Instr::And(r, x, x),
         Instr::Or(r, _, y) => Instr::Or(r, y, y),
@@ -34,7 +34,7 @@ fn misdirected(instr: Instr) -> Instr {
         Instr::Not(r, _) => Instr::Not(r, r),
         Instr::Skip(x, target) => Instr::Skip(x, target.saturating_sub(1)),
         Instr::Load(r, col, bit) => Instr::Load(r ^ 1, col, bit),
-        _ => changed(instr),
+        _ => change_operation(instr),
     }
 }
 
@@ -50,8 +50,8 @@ fn with_change(
         let instr = program.instr(place);
         instrs.push(match misdirects {
             _ if place != number => instr,
-            true => misdirected(instr),
-            false => changed(instr),
+            true => change_register(instr),
+            false => change_operation(instr),
         })?;
     }
     Ok(instrs)
@@ -72,8 +72,8 @@ fn change(
     Program::new(alloc, schema, &instrs, program.result())
 }
 
-/// Judges a program with each of its instructions changed in turn.
-pub(crate) fn assert_changes_judged(
+/// Checks a program with each of its instructions changed in turn.
+pub(crate) fn assert_changes_checked(
     rt: &impl Abort,
     alloc: Global,
     case: Case<'_>,
@@ -82,7 +82,7 @@ pub(crate) fn assert_changes_judged(
     for number in 0..program.len() {
         for misdirects in [false, true] {
             if let Some(changed) = change(alloc, case.schema, program, number, misdirects)? {
-                case.judge(rt, alloc, changed)?;
+                case.verdict(rt, alloc, changed)?;
             }
         }
     }

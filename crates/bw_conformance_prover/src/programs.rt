@@ -1,7 +1,7 @@
 //! Programs of the planner, and with one instruction changed.
-use crate::changes::assert_changes_judged;
+use crate::case::{Case, Verdict, query_of};
+use crate::changes::assert_changes_checked;
 use crate::conditions::condition;
-use crate::judge::{Case, Verdict, query_of};
 use crate::tables::{NumberSource, SMALL, WIDE, small_rows, table, wide_rows};
 use bw_model::{Row, Schema};
 use bw_plan::propose;
@@ -27,9 +27,9 @@ fn assert_certified(
     };
     let program = propose(alloc, schema, &query.cond)?.program;
     if changes {
-        assert_changes_judged(rt, alloc, case, &program)?;
+        assert_changes_checked(rt, alloc, case, &program)?;
     }
-    let verdict = case.judge(rt, alloc, program)?;
+    let verdict = case.verdict(rt, alloc, program)?;
     assert_eq!(rt; verdict, Verdict::Certified, "{text}");
     Ok(())
 }
@@ -66,7 +66,7 @@ fn planned_programs_of_a_wide_table_are_certified(rt: HostRuntime) -> Result<(),
 }
 
 #[test]
-fn changed_programs_of_the_planner_are_judged(rt: HostRuntime) -> Result<(), Fail> {
+fn changed_programs_of_the_planner_are_checked(rt: HostRuntime) -> Result<(), Fail> {
     let schema = table(rt.alloc(), SMALL)?;
     let rows = small_rows(rt.alloc())?;
     assert_drawn(&rt, rt.alloc(), &schema, &rows, 12, true)

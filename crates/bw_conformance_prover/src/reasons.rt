@@ -1,5 +1,5 @@
 //! Programs without a certificate, each with its reason.
-use crate::judge::{Case, Verdict, query_of};
+use crate::case::{Case, Verdict, query_of};
 use crate::tables::{SMALL, small_rows, table};
 use bw_model::{Row, Schema};
 use bw_program::Program;
@@ -54,7 +54,7 @@ fn assert_verdict(
         rows,
     };
     let program = Program::parse(alloc, schema, program.as_bytes())?;
-    let verdict = case.judge(rt, alloc, program)?;
+    let verdict = case.verdict(rt, alloc, program)?;
     assert_eq!(rt; verdict, wanted, "{text}");
     Ok(())
 }

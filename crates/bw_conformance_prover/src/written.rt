@@ -2,8 +2,8 @@
 ghost use Rattle.std.specs.Prelude.{IfOk, IsTrue};
 ghost use Rattle.bw_program.specs.Program.{fits};
 
-use crate::changes::assert_changes_judged;
-use crate::judge::{Case, Verdict, query_of};
+use crate::case::{Case, Verdict, query_of};
+use crate::changes::assert_changes_checked;
 use crate::tables::{NumberSource, SMALL, WIDE, small_rows, table, wide_rows};
 use crate::writer::{Bound, Style, Writer};
 use bw_model::{Row, Schema};
@@ -147,9 +147,9 @@ fn assert_certified(
         rows: setting.rows,
     };
     if setting.changes {
-        assert_changes_judged(rt, alloc, case, &program)?;
+        assert_changes_checked(rt, alloc, case, &program)?;
     }
-    let verdict = case.judge(rt, alloc, program)?;
+    let verdict = case.verdict(rt, alloc, program)?;
     assert_eq!(rt; verdict, Verdict::Certified, "{text}");
     Ok(())
 }

@@ -160,7 +160,7 @@ fn assert_faults<L: CodeLayout>(
 }
 
 #[test]
-fn blocks_are_judged(rt: HostRuntime) -> Result<(), Fail> {
+fn blocks_are_checked(rt: HostRuntime) -> Result<(), Fail> {
     assert_faults::<Planes>(&rt, &CHANGED_PLANES)?;
     assert_faults::<Slices>(&rt, &CHANGED_SLICES)
 }

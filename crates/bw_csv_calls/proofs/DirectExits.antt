@@ -4,12 +4,13 @@ use Rattle.bw_model.specs.declared.fault.Fault.{Fault}
 use Rattle.bw_model.specs.declared.query.Query.{Query}
 use Rattle.bw_model.specs.declared.schema.Schema.{Schema}
 use Rattle.bw_model.specs.Fault.{no_memory, is_memory}
+use Rattle.bw_model.proofs.ErrLemmas.{memory_is}
 use Rattle.bw_io.specs.Source.{Arrival, NotReached, Failed}
 use Rattle.bw_csv.specs.Input.{IsMadeOf}
 use Rattle.bw_sql.specs.Statement.{IsReadAs, Parses}
 use Rattle.bw_csv_calls.specs.ReadInputs.{IsSchemaFrom}
 use Rattle.bw_csv_calls.specs.Direct.{IsAnswer, answer_of}
-use Rattle.bw_csv_calls.proofs.Exits.{Given, Ends, IsFaultOf, memory_is, refused_exit}
+use Rattle.bw_csv_calls.proofs.Exits.{Given, Ends, IsFaultOf, refused_exit}
 
 -- what an answer is, by what came of the sources
 abbrev pub AnswerTo : List ℕ → Arrival → Arrival → Given → Type 0

@@ -6,7 +6,7 @@ use Rattle.bw_model.specs.Fault.{MatchesUnlessOom, no_memory, is_memory}
 use Rattle.bw_model.specs.SchemaText.{schema_of, schema_shape, IsSchemaText}
 use Rattle.bw_io.specs.Source.{Arrival, Whole, Failed, ReadOutcome, SourceState}
 use Rattle.bw_csv_calls.specs.ReadInputs.{IsSchemaFrom}
-use Rattle.bw_csv_calls.proofs.Exits.{memory_is}
+use Rattle.bw_model.proofs.ErrLemmas.{memory_is}
 
 -- what came of a source of which this was read
 abbrev CameAs : ℕ → SourceState → SourceState → Result Schema Fault → Type 0

@@ -1,13 +1,9 @@
 -- Where a call that reads a schema and a CSV and writes a text ends: at the schema, at the CSV, at
 -- what is made of it, or when the text is written.
-use Rattle.std.proofs.Common.{◌≡◌, ℕ, List, true, false, ◌==◌, Result, Ok, Err, refl, subst}
-use Rattle.std.proofs.Common.{ap, eqb-true}
+use Rattle.std.proofs.Common.{◌≡◌, ℕ, List, false, Result, Ok, Err, refl, subst}
 use Rattle.bw_model.specs.declared.fault.Fault.{Fault}
-use Rattle.bw_model.specs.declared.fault.Place.{Place}
-use Rattle.bw_model.specs.declared.fault.Place.TheVariants.{Nowhere}
 use Rattle.bw_model.specs.declared.schema.Schema.{Schema}
-use Rattle.bw_model.specs.Fault.{no_memory, nowhere, is_memory}
-use Rattle.bw_model.proofs.BitsLemmas.{both}
+use Rattle.bw_model.specs.Fault.{no_memory, nowhere}
 use Rattle.bw_csv.specs.Bare.{records_of}
 use Rattle.bw_csv.specs.Rows.{StopsUnder, is_exempt}
 use Rattle.bw_io.specs.Sink.{is_write_fault, GoesOut, SinkState, WriteOutcome}
@@ -27,14 +23,6 @@ Ends P Q Is W = (schema csv : Arrival) × (given : Given) × P schema × Q csv �
 -- an error was answered that is the one of what was given, but for those set aside
 abbrev pub IsFaultOf : Fault → Given → Type 0
 IsFaultOf fault given = is_exempt fault ≡ false → given ≡ Err fault
-
--- out of memory is one error
-memory_at : (code : ℕ) (place : Place) → is_memory (record { code = code; place = place }) ≡ true → ◌≡◌ {A = Fault} (record { code = code; place = place }) no_memory
-memory_at code Nowhere is = ap nowhere (eqb-true code 801 (both _ _ is).0)
-memory_at code _ is = absurd (cc ((both (code == 801) false is).1))
-
-pub memory_is : (fault : Fault) → is_memory fault ≡ true → fault ≡ no_memory
-memory_is fault is = memory_at fault.code fault.place is
 
 -- a source that gave its bytes has failed no more than one that found no memory
 pub none_understood : (limit : ℕ) (old new : SourceState) (came : Arrival) (schema : Schema)

@@ -82,10 +82,10 @@ accept_chain-room facts number named accepted is = leb-false most_chains (length
 pub accept_node-true : (facts : Facts) (number : ℕ) (node accepted : Node) → accept_node facts number node ≡ Ok accepted → AreTrue facts → AreTrue (record facts { nodes = facts.nodes ++ accepted ∷ [] })
 unfolding accept_node
 accept_node-true facts number node accepted is true_before =
-    let judged = refused_if-ok _ _ _ _ _ accepted is in
-    let obeys = is_valid_node-is (variables_of facts.columns) facts.nodes number node (not-false _ judged.1) in
+    let checked = refused_if-ok _ _ _ _ _ accepted is in
+    let obeys = is_valid_node-is (variables_of facts.columns) facts.nodes number node (not-false _ checked.1) in
     let P : Node → Type 0 = λ n. AreTrue (record facts { nodes = facts.nodes ++ n ∷ [] }) in
-    subst P judged.2 (with_node-true facts number node obeys true_before)
+    subst P checked.2 (with_node-true facts number node obeys true_before)
   where
     with_node-true : (facts : Facts) (number : ℕ) (node : Node) → IsValidNode (variables_of facts.columns) facts.nodes number node → AreTrue facts → AreTrue (record facts { nodes = facts.nodes ++ node ∷ [] })
     with_node-true facts number node obeys true_before = record {
@@ -107,10 +107,10 @@ accept_node-true facts number node accepted is true_before =
 pub accept_product-true : (facts : Facts) (number : ℕ) (row accepted : Product) (reason : Reason) → accept_product facts number row reason ≡ Ok accepted → AreTrue facts → AreTrue (record facts { products = facts.products ++ accepted ∷ [] })
 unfolding accept_product
 accept_product-true facts number row accepted reason is true_before =
-    let judged = refused_if-ok _ _ _ _ _ accepted is in
-    let product = is_valid_product-product (variables_of facts.columns) facts.nodes facts.products number row reason true_before.ordered true_before.products (not-false _ judged.1) in
+    let checked = refused_if-ok _ _ _ _ _ accepted is in
+    let product = is_valid_product-product (variables_of facts.columns) facts.nodes facts.products number row reason true_before.ordered true_before.products (not-false _ checked.1) in
     let P : Product → Type 0 = λ r. AreTrue (record facts { products = facts.products ++ r ∷ [] }) in
-    subst P judged.2 (record {
+    subst P checked.2 (record {
       ordered = true_before.ordered;
       chains = true_before.chains;
       products = λ k other is. ⊎_elim (λ there. true_before.products k other there) (λ last. subst (IsProduct facts.nodes) last.1 product) (slice_get-append_one facts.products row k other is);
@@ -125,10 +125,10 @@ accept_chain-true facts number named accepted is true_before =
     if_named : (named : Option Chain) → accept_if_named facts number named ≡ Ok accepted → AreTrue (record facts { chains = facts.chains ++ accepted ∷ [] })
     if_named None is = cc
     if_named (Some chain) is =
-        let judged = refused_if-ok false (not (is_valid_chain facts.columns facts.nodes facts.chains number chain)) (nowhere 604) (nowhere 603) chain accepted is in
-        let claimed = is_valid_chain-chain facts.columns facts.nodes facts.chains number chain true_before.ordered true_before.chains (not-false (is_valid_chain facts.columns facts.nodes facts.chains number chain) judged.1) in
+        let checked = refused_if-ok false (not (is_valid_chain facts.columns facts.nodes facts.chains number chain)) (nowhere 604) (nowhere 603) chain accepted is in
+        let claimed = is_valid_chain-chain facts.columns facts.nodes facts.chains number chain true_before.ordered true_before.chains (not-false (is_valid_chain facts.columns facts.nodes facts.chains number chain) checked.1) in
         let P : Chain → Type 0 = λ c. AreTrue (record facts { chains = facts.chains ++ c ∷ [] }) in
-        subst P judged.2 (record {
+        subst P checked.2 (record {
           ordered = true_before.ordered;
           chains = λ k other is. ⊎_elim (λ there. true_before.chains k other there) (λ last. subst (IsChain facts.columns facts.nodes) last.1 claimed) (slice_get-append_one facts.chains chain k other is);
           products = true_before.products;

@@ -120,7 +120,7 @@ impl<'a> Diagram<'a> {
     /// Returns the node of these fields, if it is valid as the next one.
     #[tactic(auto, unfolding(crate::specs::Facts::accept_node, crate::specs::Node::is_valid_node))]
     fn accepted_node(&self, n: u64, v: u64, low: u64, high: u64) -> Result<Node, Fault>
-        ensures judged { result ≡ accept_node self.now n
+        ensures checked { result ≡ accept_node self.now n
             (record { v = v; low = low; high = high }) }
         ensures code { IfErr result (λ fault. IsTrue (is_diagram_fault fault)) }
     {
@@ -144,7 +144,7 @@ impl<'a> Diagram<'a> {
     /// Returns the chain of a line, if it is valid as the next one.
     #[tactic(auto, unfolding(crate::specs::Facts::accept_chain, crate::specs::Chain::is_valid_chain))]
     fn accepted_chain(&self, n: u64, columns: &ChainColumns<'_>) -> Result<Chain, Fault>
-        ensures judged { result ≡ accept_chain self.now n
+        ensures checked { result ≡ accept_chain self.now n
             (chain_named self.now.columns columns.now) }
         ensures code { IfErr result (λ fault. IsTrue (is_diagram_fault fault)) }
     {
@@ -168,7 +168,7 @@ impl<'a> Diagram<'a> {
         c: u64,
         reason: Reason,
     ) -> Result<Product, Fault>
-        ensures judged { result ≡ accept_product self.now n
+        ensures checked { result ≡ accept_product self.now n
             (record { op = op; a = a; b = b; c = c }) reason }
         ensures code { IfErr result (λ fault. IsTrue (is_diagram_fault fault)) }
     {

@@ -1,6 +1,6 @@
 //! Explains an error of a CSV text, and reads its records again.
 use crate::heading::{other_kind, put_heading};
-use crate::text::{Shown, Text, named, put};
+use crate::text::{Shown, Text, name_text, put};
 use bw_csv::{FieldRule, value_of, without_blanks};
 use bw_model::{Column, Fault, MAX_COLUMNS, MAX_ROWS, Place, Schema, code};
 use csv::{ByteRecord, Reader, ReaderBuilder};
@@ -141,7 +141,7 @@ fn put_field(text: &mut Text, record: &ByteRecord, columns: &[Column]) {
 
 /// Appends a field of a column, after its line.
 fn put_shown(text: &mut Text, column: &[u8], field: &[u8]) {
-    put!(text; ", column ", named(without_blanks(column)), ": ", Shown(without_blanks(field)), " ");
+    put!(text; ", column ", name_text(without_blanks(column)), ": ", Shown(without_blanks(field)), " ");
 }
 
 /// Returns the line at which a quotation mark opens a field that is still open at the end of the
@@ -187,7 +187,7 @@ fn put_ranges(text: &mut Text, heading: &ByteRecord, seen: &[Seen]) {
         if let Some((least, most)) = seen.range
             && most.checked_sub(least).is_none()
         {
-            put!(text; "column ", named(without_blanks(name)), ": from ", least, " to ", most);
+            put!(text; "column ", name_text(without_blanks(name)), ": from ", least, " to ", most);
             text.put(" is 2^63 or more\n");
         }
     }

@@ -1,5 +1,5 @@
 //! Explains why a query used the fallback.
-use crate::text::{Text, named, put};
+use crate::text::{Text, name_text, put};
 use bw_model::{Column, Cond, Op, Operand, Schema};
 use bw_plan::{Unplanned, why_unplanned};
 use bw_sql::parse;
@@ -59,8 +59,8 @@ struct Apart<'a> {
 
 /// Appends that no program can compare two columns, and why.
 fn put_apart(text: &mut Text, apart: &Apart<'_>) {
-    let one = named(apart.one.name.as_bytes());
-    let other = named(apart.other.name.as_bytes());
+    let one = name_text(apart.one.name.as_bytes());
+    let other = name_text(apart.other.name.as_bytes());
     let sign = match apart.op {
         Op::Eq => " = ",
         Op::Ne => " <> ",
@@ -83,11 +83,11 @@ fn apart_in<'a>(cond: &Cond, columns: &'a [Column]) -> Option<Apart<'a>> {
         Cond::Or(parts) => apart_of(parts, columns),
         Cond::Not(part) => apart_in(part, columns),
         Cond::Test(part, _) => apart_in(part, columns),
-        Cond::Cmp(op, x, y) => compared(*x, *op, &[*y], columns),
+        Cond::Cmp(op, x, y) => apart_among(*x, *op, &[*y], columns),
         Cond::Between(x, y, z) => {
-            compared(*x, Op::Ge, &[*y], columns).or(compared(*x, Op::Le, &[*z], columns))
+            apart_among(*x, Op::Ge, &[*y], columns).or(apart_among(*x, Op::Le, &[*z], columns))
         }
-        Cond::Among(x, items) => compared(*x, Op::Eq, items, columns),
+        Cond::Among(x, items) => apart_among(*x, Op::Eq, items, columns),
         Cond::Always | Cond::IsNull(_) => None,
     }
 }
@@ -105,7 +105,7 @@ fn apart_of<'a>(conds: &[Cond], columns: &'a [Column]) -> Option<Apart<'a>> {
 }
 
 /// Returns the first such comparison of an operand with others.
-fn compared<'a>(
+fn apart_among<'a>(
     x: Operand,
     op: Op,
     others: &[Operand],

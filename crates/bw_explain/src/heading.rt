@@ -1,5 +1,5 @@
 //! Explains an error of the heading of a CSV text.
-use crate::text::{Shown, Text, named, put};
+use crate::text::{Shown, Text, name_text, put};
 use bw_csv::without_blanks;
 use bw_model::{Column, MAX_COLUMNS, code, is_name};
 use bw_text::is_word;
@@ -26,7 +26,7 @@ fn put_wrong(text: &mut Text, heading: &ByteRecord, columns: &[Column], code: u1
         match (code, columns.get(at)) {
             (code::HEADING, Some(column)) if !column.name.is(name) => {
                 put_which(text, at, name);
-                return put!(text; ": expected ", named(column.name.as_bytes()), "\n");
+                return put!(text; ": expected ", name_text(column.name.as_bytes()), "\n");
             }
             (code::SCHEMA_NAME, _) if !is_name(name) => {
                 put_which(text, at, name);

@@ -1,7 +1,7 @@
 //! What an instruction of a program text is: its words, registers, bits, bytes and skips.
 use crate::program_file::first_word;
 use crate::statement::put_columns;
-use crate::text::{Text, named, put};
+use crate::text::{Text, name_text, put};
 use bw_model::{Schema, code};
 use bw_text::Opcode;
 
@@ -47,7 +47,7 @@ fn put_column(text: &mut Text, schema: &Schema, line: &[u8]) {
     let Some(column) = schema.columns.get(number) else {
         return;
     };
-    let name = named(column.name.as_bytes());
+    let name = name_text(column.name.as_bytes());
     let last = match Opcode::of(first_word(line)) {
         Some(Opcode::Load) => {
             put!(text; "the bits of ", name);

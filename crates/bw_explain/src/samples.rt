@@ -77,6 +77,13 @@ impl Values {
     }
 }
 
+/// How the values of a row are chosen: the next combination of them, or by chance.
+#[derive(Clone, Copy)]
+enum Choice {
+    Next,
+    Drawn,
+}
+
 /// Segments of rows, the next one of which is made by a count and by drawn numbers, which are the
 /// same in each call.
 #[derive(Drop)]
@@ -259,12 +266,13 @@ impl Samples {
     pub(crate) fn next(&mut self, bases: [Option<&Row>; 2]) -> Result<Vec<Row>, AllocError> {
         let mut rows = Vec::new(self.alloc);
         for _ in 0..LANES {
-            let is_next = self.count < self.combinations;
-            let base = match self.draw() % 3 {
-                place if !is_next => bases.get(place as usize).copied().flatten(),
-                _ => None,
+            let chance = self.draw() % 3;
+            let row = if self.count < self.combinations {
+                self.row(None, Choice::Next)?
+            } else {
+                let base = bases.get(chance as usize).copied().flatten();
+                self.row(base, Choice::Drawn)?
             };
-            let row = self.row(base, is_next)?;
             rows.push(row)?;
             self.count = self.count.wrapping_add(1);
         }
@@ -273,7 +281,7 @@ impl Samples {
 
     /// Returns a row: the next combination, or a drawn one, three of four values of which are those
     /// of the base, if there is one. Drawn ones have the values of the widest column in turn.
-    fn row(&mut self, base: Option<&Row>, is_next: bool) -> Result<Row, AllocError> {
+    fn row(&mut self, base: Option<&Row>, choice: Choice) -> Result<Row, AllocError> {
         let mut row = Vec::new(self.alloc);
         let mut rest = self.count;
         for column in 0..self.columns.len() {
@@ -284,12 +292,10 @@ impl Samples {
                 .get(column)
                 .map_or(&[] as &[Value], |found| found.of.as_slice());
             let count = (values.len() as u64).max(1);
-            let place = if is_next {
-                rest
-            } else if column == self.widest {
-                self.count
-            } else {
-                drawn / 4
+            let place = match choice {
+                Choice::Next => rest,
+                Choice::Drawn if column == self.widest => self.count,
+                Choice::Drawn => drawn / 4,
             } % count;
             rest /= count;
             let other = values.get(place as usize).copied().flatten();

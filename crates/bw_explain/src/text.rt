@@ -86,6 +86,6 @@ fn show_text<W: fmt::Write>(text: &str, f: &mut fmt::Formatter<W>) -> fmt::Resul
 }
 
 /// Returns a name as text.
-pub(crate) fn named(name: &[u8]) -> &str {
+pub(crate) fn name_text(name: &[u8]) -> &str {
     std::str::from_utf8(name).unwrap_or("?")
 }

@@ -1,5 +1,5 @@
 //! Comparisons of columns that can be turned round.
-use crate::text::{Text, named, put};
+use crate::text::{Text, name_text, put};
 use bw_model::{Cond, Op, Operand, Schema};
 use std::alloc::{AllocError, Global};
 
@@ -27,7 +27,10 @@ pub(crate) fn put_turn(text: &mut Text, schema: &Schema, cond: &Cond) {
         if leads(text.alloc, &found, *right, *left, turned)
             && !leads(text.alloc, &found, *left, *right, turned)
         {
-            let (one, other) = (named(one.name.as_bytes()), named(other.name.as_bytes()));
+            let (one, other) = (
+                name_text(one.name.as_bytes()),
+                name_text(other.name.as_bytes()),
+            );
             put!(text; "try ", other, sign, one, " in place of ", one, sign, other, "\n");
             return;
         }

@@ -3,7 +3,7 @@
 use crate::claim::Claim;
 use crate::program_file::line_of;
 use crate::samples::Samples;
-use crate::text::{Text, named, put};
+use crate::text::{Text, name_text, put};
 use crate::trial::wrong_rows;
 use crate::turn::put_turn;
 use bw_cert::split_file;
@@ -89,7 +89,7 @@ fn put_bits(text: &mut Text, schema: &Schema, column: usize, is_null: bool, code
     let Some(found) = schema.columns.get(column) else {
         return text.put("no table has them\n");
     };
-    put!(text; named(found.name.as_bytes()), if is_null { ": NULL with code " } else { ": code " });
+    put!(text; name_text(found.name.as_bytes()), if is_null { ": NULL with code " } else { ": code " });
     put!(text; code, ", which no table has\n");
 }
 
@@ -192,7 +192,7 @@ fn put_wrong(text: &mut Text, claim: &Claim<'_>, row: &Row, beside: &[&Row]) -> 
 /// Appends a row, as equations of its columns.
 fn put_row(text: &mut Text, schema: &Schema, row: &Row) {
     for (number, (column, value)) in schema.columns.iter().zip(&row.values).enumerate() {
-        put!(text; if number == 0 { "" } else { ", " }, named(column.name.as_bytes()), " = ");
+        put!(text; if number == 0 { "" } else { ", " }, name_text(column.name.as_bytes()), " = ");
         match value {
             Some(n) => text.put(*n),
             None => text.put("NULL"),

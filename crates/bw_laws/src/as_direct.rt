@@ -10,7 +10,7 @@ ghost use Rattle.bw_csv_calls.specs.Load.{IsFile};
 ghost use Rattle.bw_laws.specs.AsDirect.{IsAnswerable, LoadMayWrite, HasConsumedAnswer};
 ghost use Rattle.bw_laws.specs.AsDirect.{HasConsumedAsDirect};
 
-/// A theorem about `load`, `answer` and `direct`. Let a load write the bytes of a table file for a
+/// A law about `load`, `answer` and `direct`. Let a load write the bytes of a table file for a
 /// schema text and a CSV text. Then over these bytes `answer` writes the one text that `direct` may
 /// write for the same schema text, CSV text and statement, whichever reads fail (`texts`). It is
 /// the text of the one answer that follows from what was read of the sources (`came`). Neither

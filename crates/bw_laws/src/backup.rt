@@ -18,7 +18,7 @@ ghost use Rattle.bw_laws.specs.Backup.{table_text};
 
 use bw_model::Schema;
 
-/// A theorem: what a dump writes of a table is the table as a CSV text, which spells the table's
+/// A law: what a dump writes of a table is the table as a CSV text, which spells the table's
 /// rows. So loading it in the same layout yields the table's file: the same bytes, unless the file
 /// was of version 2 without need. The text is at most as long as its columns and rows allow, and
 /// with at most three columns it is never too long to be loaded.
@@ -44,7 +44,7 @@ pub fn a_dump_is_a_backup()
         → length (table_text schema rows) ≤ longest_csv }
 {}
 
-/// A theorem about `dump` and `load`: a dump of a table file writes the table as a CSV text. If
+/// A law about `dump` and `load`: a dump of a table file writes the table as a CSV text. If
 /// this isn't longer than a CSV text may be, then loading it under a schema text that spells the
 /// schema yields the table's file in the requested layout; in the same layout the same bytes,
 /// unless the file was of version 2 without need.
@@ -61,7 +61,7 @@ pub fn what_is_dumped_is_loaded()
         → IsOfNeededVersion bytes schema → LoadsUnder layout schema (table_text schema rows) bytes }
 {}
 
-/// A theorem about `info`, `dump` and `load`: what `info` writes of a table file spells the table's
+/// A law about `info`, `dump` and `load`: what `info` writes of a table file spells the table's
 /// schema. Under it, loading the dump in the same layout yields the bytes of the file, unless that
 /// was of version 2 without need.
 pub fn a_file_is_restored()
@@ -81,7 +81,7 @@ pub fn a_file_is_restored()
     what_is_dumped_is_loaded();
 }
 
-/// A theorem: the file that a load writes of a CSV text is, byte for byte, the one that a load
+/// A law: the file that a load writes of a CSV text is, byte for byte, the one that a load
 /// writes of that file's dump, under the same schema and in the same layout. At run time it looks
 /// at each column of the schema.
 pub fn a_load_is_restored(schema: &Schema)

@@ -9,7 +9,7 @@ ghost use Rattle.bw_file.specs.declared.layout.Layout.{Layout};
 ghost use Rattle.bw_file.specs.FileBytes.{IsFileBytes};
 ghost use Rattle.bw_file.specs.TableReading.{Found, IsReadAs};
 
-/// A theorem: a truncated table file is rejected. Reading any proper beginning of its bytes fails
+/// A law: a truncated table file is rejected. Reading any proper beginning of its bytes fails
 /// with 305 at the beginning's own length, and with nothing else.
 pub fn a_cut_file_is_refused()
     ensures refused { (bytes : List ℕ) (layout : Layout) (schema : Schema)

@@ -16,7 +16,7 @@ ghost use Rattle.bw_laws.specs.OneAnswer.{query_asked_in};
 
 use bw_cert::one_verdict;
 
-/// A theorem about `answer_in_memory` and `answer`: over a table in memory that was read from these
+/// A law about `answer_in_memory` and `answer`: over a table in memory that was read from these
 /// bytes, a statement has the same answer as over a source of the bytes.
 ///
 /// What `answer_in_memory` may write is the one text that `answer` may write, whichever programs

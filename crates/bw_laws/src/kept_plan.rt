@@ -16,7 +16,7 @@ ghost use Rattle.bw_query.specs.TableAnswer.{AnswersFile, by_statement};
 
 use bw_cert::{certificates_are_checked_by_their_fields, one_verdict, valid_exactly_where_checked};
 
-/// A theorem about `plan_text` and `answer`: a query with a stored plan is scanned by the plan's
+/// A law about `plan_text` and `answer`: a query with a stored plan is scanned by the plan's
 /// program, never by the fallback.
 ///
 /// If `plan_text` succeeds for a schema text and a statement, a sink that was empty holds a plan

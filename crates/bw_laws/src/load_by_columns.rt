@@ -26,7 +26,7 @@ ghost use Rattle.bw_csv_calls.specs.Load.{file_in};
 use bw_memory::{columns_are_those_of_the_file, stored_rows_are_those_of_the_file};
 use bw_model::Schema;
 
-/// A theorem about `load_in_order`, `answer_by_columns` and `dump_by_columns`: over the file by
+/// A law about `load_in_order`, `answer_by_columns` and `dump_by_columns`: over the file by
 /// columns that a load writes for a CSV text under this schema, in either layout, the answer to a
 /// statement is its meaning over the rows of that CSV text, whichever program selects them, although
 /// only the columns that the statement and its program name are read; and a dump is every row in
@@ -46,7 +46,7 @@ pub fn what_is_loaded_by_columns_is_answered(schema: &Schema)
     columns_are_those_of_the_file();
 }
 
-/// A theorem about `answer_statements`: over the file by columns that a load writes, what a session
+/// A law about `answer_statements`: over the file by columns that a load writes, what a session
 /// answers a statement by, the text of its meaning over rows that have the columns which it names, is
 /// the text of its meaning over the rows of the CSV text. At run time it looks at each column of the
 /// schema.
@@ -62,7 +62,7 @@ pub fn a_session_by_columns_answers_what_was_loaded(schema: &Schema)
     stored_rows_are_those_of_the_file();
 }
 
-/// A theorem about `dump_by_columns` and `load_in_order`: a dump of a file by columns writes the table
+/// A law about `dump_by_columns` and `load_in_order`: a dump of a file by columns writes the table
 /// as a CSV text. Loading it by columns, in the same layout, yields the bytes of the file; in another
 /// order or layout the table's file there.
 pub fn what_is_dumped_by_columns_is_loaded()

@@ -8,7 +8,7 @@ ghost use Rattle.bw_csv_calls.specs.Load.{file_of};
 
 use bw_model::Schema;
 
-/// A theorem about `load`, `answer` and `dump`: over the bytes that a load writes for a CSV text
+/// A law about `load`, `answer` and `dump`: over the bytes that a load writes for a CSV text
 /// under this schema, in either layout, the answer to a statement is its meaning over the rows of
 /// that CSV text, whichever program selects them; and a dump is every row in every column. It is
 /// the text that `direct` writes. At run time it looks at each column of the schema.

@@ -5,7 +5,7 @@ ghost use Rattle.bw_model.specs.Row.{Value, value_in};
 ghost use Rattle.bw_answer.specs.Answer.{meaning};
 ghost use Rattle.bw_query.specs.NamedColumns.{query_names};
 
-/// A theorem: if each row is changed, but has the same values in the columns that a query names, the
+/// A law: if each row is changed, but has the same values in the columns that a query names, the
 /// query's meaning over the rows is the same. So a column that it doesn't name need not be read.
 pub fn an_answer_depends_on_named_columns()
     ensures { (names : List (List ℕ)) (query : Query) (change : List Value → List Value)

@@ -9,7 +9,7 @@ ghost use Rattle.bw_sql.specs.Statement.{IsReadAs};
 ghost use Rattle.bw_csv_calls.specs.Direct.{IsAnswer};
 ghost use Rattle.bw_laws.specs.OneAnswer.{DirectMayWrite, query_asked_in};
 
-/// A theorem: under schemas of one name and the same columns, a statement is read in one way. Two
+/// A law: under schemas of one name and the same columns, a statement is read in one way. Two
 /// readings are equal queries or the same error.
 pub fn one_reading_under_one_shape()
     ensures { (schema other : Schema) (text : List ℕ) (reading second : Result Query Fault)
@@ -17,7 +17,7 @@ pub fn one_reading_under_one_shape()
         → IsReadAs other text second → query_asked_in reading ≡ query_asked_in second }
 {}
 
-/// A theorem: a schema text, a CSV text and a statement have one answer. What was read of the two
+/// A law: a schema text, a CSV text and a statement have one answer. What was read of the two
 /// sources determines one text or one error (`came`). So over sources of these texts `direct` can
 /// write at most one text, whichever of its reads fail (`texts`).
 pub fn there_is_one_answer()

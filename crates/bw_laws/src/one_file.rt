@@ -6,7 +6,7 @@ ghost use Rattle.bw_file.specs.declared.layout.Layout.{Layout};
 ghost use Rattle.bw_csv_calls.specs.Load.{IsFile};
 ghost use Rattle.bw_laws.specs.AsDirect.{LoadMayWrite};
 
-/// A theorem: a schema text and a CSV text have one table file in each layout. What was read of the
+/// A law: a schema text and a CSV text have one table file in each layout. What was read of the
 /// two sources determines one file or one error (`came`). So over sources of these texts `load` can
 /// write only the same bytes, whichever of its reads fail (`texts`).
 pub fn there_is_one_file()

@@ -5,7 +5,7 @@ ghost use Rattle.bw_model.specs.Row.{Value};
 ghost use Rattle.bw_sql.specs.QueryShape.{query_shape};
 ghost use Rattle.bw_answer.specs.Answer.{meaning};
 
-/// A theorem: two queries with the same items and the same trees of conditions have the same
+/// A law: two queries with the same items and the same trees of conditions have the same
 /// meaning over any rows, wherever their parts lie in memory.
 pub fn one_meaning_of_what_is_asked()
     ensures { (names : List (List ℕ)) (query other : Query) (rows : List (List Value))

@@ -7,7 +7,7 @@ ghost use Rattle.bw_file.specs.declared.layout.Layout.{Layout};
 ghost use Rattle.bw_file.specs.FileBytes.{IsFileBytes};
 ghost use Rattle.bw_query.specs.TableAnswer.{AnswersFile, by_statement};
 
-/// A theorem: a table and a statement have one answer. Over two files of one table, `answer` writes
+/// A law: a table and a statement have one answer. Over two files of one table, `answer` writes
 /// the same text for a statement, whatever the layouts and versions of the files, and whichever
 /// programs select the rows.
 pub fn a_table_has_one_answer()

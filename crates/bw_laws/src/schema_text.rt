@@ -4,7 +4,7 @@ ghost use Rattle.bw_model.specs.FaultTable.{SCHEMA_FORM, SCHEMA_TOO_LONG};
 ghost use Rattle.bw_model.specs.declared.fault.Fault.{Fault};
 ghost use Rattle.bw_model.specs.SchemaText.{IsSchemaText, SchemaShape, schema_of};
 
-/// A theorem: a schema text spells one schema or has one error, never both and never two. The error
+/// A law: a schema text spells one schema or has one error, never both and never two. The error
 /// is the one that `schema_of` finds; its number is one of 101 to 106.
 pub fn a_schema_text_spells_one_schema_or_has_one_fault()
     ensures either { (text : List ℕ) → ((shape : SchemaShape) × IsSchemaText text shape)

@@ -37,6 +37,6 @@ impl FormulaReader<'_> {
     /// `inverted`.
     fn codes(&self, column: usize, limits: [i128; 2], inverted: bool) -> FormulaResult {
         let set = Set::between(self.alloc, self.schema, column, limits, inverted)?;
-        Ok(Formula::Codes(set).simplified(self.schema))
+        Ok(Formula::Codes(set).simplify(self.schema))
     }
 }

@@ -72,7 +72,7 @@ impl FormulaReader<'_> {
                 negated: !compared.negated,
                 ..compared
             })),
-            part => Ok(Formula::Not(Box::new(self.alloc, part)?).simplified(self.schema)),
+            part => Ok(Formula::Not(Box::new(self.alloc, part)?).simplify(self.schema)),
         }
     }
 
@@ -97,7 +97,7 @@ impl FormulaReader<'_> {
             return self.opposite(part);
         }
         let tested = Formula::Test(Box::new(self.alloc, part)?, truth);
-        Ok(tested.simplified(self.schema))
+        Ok(tested.simplify(self.schema))
     }
 
     /// Returns whether one of two columns, which may be the same, is null.
@@ -228,7 +228,7 @@ impl JoinedParts {
         }
         if self.parts.len() > 1 {
             let whole = Formula::Joined(self.junction, self.parts, self.levels);
-            return Ok(whole.simplified(schema));
+            return Ok(whole.simplify(schema));
         }
         Ok(self.parts.pop().unwrap_or(Formula::Fixed(neutral)))
     }
@@ -236,7 +236,7 @@ impl JoinedParts {
 
 impl Formula {
     /// Returns the only truth that it may have, or else itself.
-    pub(crate) fn simplified(self, schema: &Schema) -> Formula {
+    pub(crate) fn simplify(self, schema: &Schema) -> Formula {
         match self.only_truth(schema) {
             Some(truth) => Formula::Fixed(truth),
             None => self,

@@ -1,6 +1,7 @@
 //! All numbers by which the planner is tuned, each with what chose it. `bench.py cliffs` times the
 //! conditions that are named here; `bw plan` shows a program and its certificate, and
-//! `test_conditions` which conditions have one.
+//! `test_conditions` which conditions have one. Figures are those of the planner of 2026-11-29 and 30,
+//! unless they have another date.
 
 /// The most instructions of a program.
 pub(crate) const MAX_INSTRUCTIONS: usize = 4096;
@@ -50,7 +51,8 @@ pub(crate) const MAX_CONDITION_ROWS: u32 = 70_000;
 pub(crate) const FORECAST_FROM: u32 = 3000;
 
 /// The most product rows of a certificate: as many take 20 MB to plan. Seven columns of 63 bits that
-/// are each less than the next take 76,602. To repeat it: count the lines ROW of `bw plan`.
+/// are each less than the next take 76,602 (2026-12-01). To repeat it: count the lines ROW of `bw
+/// plan`.
 pub(crate) const MAX_ROWS: u32 = 80_000;
 
 /// The number of top bytes of a number after which a comparison with it may end early. Of 512 rows

@@ -8,7 +8,7 @@ use std::alloc::Global;
 pub(crate) type Key = (u64, u64);
 
 /// Entries in order, numbered from 0, each with a key of its own. Most of a prover's work is to find
-/// and to add product rows: this takes a third of the time of an `IndexMap`.
+/// and to add product rows: this takes a third of the time of an `IndexMap` (2026-11-29).
 #[derive(Drop)]
 pub(crate) struct Ledger<T: Copy> {
     pub(crate) entries: Vec<T>,

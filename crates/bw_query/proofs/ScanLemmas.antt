@@ -1,18 +1,15 @@
 -- Who finds a query's rows, and what is reported of that.
-use Rattle.std.proofs.Common.{◌==◌, ◌≡◌, ◌∙◌, ℕ, Bool, true, false, List, [], ◌∷◌, Option, Some, None}
-use Rattle.std.proofs.Common.{ap, eqb-true, inl, inr, refl}
+use Rattle.std.proofs.Common.{◌≡◌, ◌∙◌, ℕ, Bool, true, false, List, [], ◌∷◌, Option, Some, None}
+use Rattle.std.proofs.Common.{inl, inr, refl}
 use Rattle.std.specs.List.{sum_by}
 use Rattle.bw_model.specs.declared.column.Column.{Column}
 use Rattle.bw_model.specs.declared.cond.Cond.{Cond}
 use Rattle.bw_model.specs.declared.fault.Fault.{Fault}
-use Rattle.bw_model.specs.declared.fault.Place.{Place}
-use Rattle.bw_model.specs.declared.fault.Place.TheVariants.{Nowhere}
 use Rattle.bw_model.specs.declared.query.Query.{Query}
 use Rattle.bw_model.specs.declared.schema.Schema.{Schema}
-use Rattle.bw_model.specs.Fault.{is_memory, no_memory, nowhere}
+use Rattle.bw_model.specs.Fault.{is_memory}
 use Rattle.bw_model.specs.Groups.{groups_of}
 use Rattle.bw_model.specs.Row.{Value}
-use Rattle.bw_model.proofs.BitsLemmas.{both}
 use Rattle.bw_query.specs.declared.scan.Scan.{Scan}
 use Rattle.bw_query.specs.declared.scan.Scan.TheVariants.{Program, Rows}
 use Rattle.bw_query.specs.declared.served.Scanned.{Scanned}
@@ -67,11 +64,3 @@ only_memory fault other = by_case (is_memory fault) refl
     by_case : (b : Bool) → is_memory fault ≡ b → is_memory fault ≡ true
     by_case true e = e
     by_case false e = absurd (other e)
-
--- out of memory is one error
-memory_at : (code : ℕ) (place : Place) → is_memory (record { code = code; place = place }) ≡ true → ◌≡◌ {A = Fault} (record { code = code; place = place }) no_memory
-memory_at code Nowhere is = ap nowhere (eqb-true code 801 (both _ _ is).0)
-memory_at code _ is = absurd (cc ((both (code == 801) false is).1))
-
-pub memory_is : (fault : Fault) → is_memory fault ≡ true → fault ≡ no_memory
-memory_is fault is = memory_at fault.code fault.place is

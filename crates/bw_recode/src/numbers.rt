@@ -134,7 +134,7 @@ pub(crate) fn read_replacements(
     if olds.len() < news.len() {
         return Err(Fault::at_line(code::RECORD_LENGTH, lines.number()));
     }
-    if !lines.unread().is_empty() {
+    if !lines.rest().is_empty() {
         return Err(Fault::at_line(code::RECORD_LENGTH, lines.number()));
     }
     Ok(replacements)

@@ -6,7 +6,7 @@ use Rattle.bw_model.specs.declared.fault.Fault.{Fault}
 use Rattle.bw_model.specs.declared.query.Query.{Query}
 use Rattle.bw_model.specs.declared.schema.Schema.{Schema}
 use Rattle.bw_model.specs.CondTree.{tree_of}
-use Rattle.bw_model.specs.Fault.{MatchesUnlessOom, is_memory}
+use Rattle.bw_model.specs.Fault.{MatchesUnlessOom, is_memory, no_memory}
 use Rattle.bw_model.specs.SchemaText.{SchemaShape, schema_shape, IsSchemaText}
 use Rattle.bw_program.specs.Program.{ProgramShape}
 use Rattle.bw_cert_text.specs.CertificateShape.{CertificateShape}
@@ -35,10 +35,10 @@ module _ (sql : List ℕ) (schema other : Schema) where
 
   -- no statement that is spelled is rejected but for memory
   pub none_refused : (asked : Query) (fault : Fault) → ◌≡◌ {A = Result SchemaShape Fault} (Ok (schema_shape other)) (Ok (schema_shape schema)) →
-      Spells other sql (query_shape asked) → ((query : QueryShape) → Spells schema sql query → IsTrue (is_memory fault)) →
+      Spells other sql (query_shape asked) → ((query : QueryShape) → Spells schema sql query → fault ≡ no_memory) →
       is_memory fault ≡ false → ◌≡◌ {A = Result (SchemaShape × QueryShape) Fault} (Ok (shape_of other asked)) (Err fault)
   none_refused asked fault read spells refused aside =
-      let memory = refused (query_shape asked) (spells_too other schema sql (query_shape asked) (shapes_of read) spells) in
+      let memory = ap is_memory (refused (query_shape asked) (spells_too other schema sql (query_shape asked) (shapes_of read) spells)) in
       let never : true ≡ false = cc in cc
 
 -- what is accepted has the numbers of what is found for the schema and the query that were read

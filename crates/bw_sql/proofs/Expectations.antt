@@ -11,7 +11,7 @@ use Rattle.bw_sql.specs.declared.token.Mark.TheVariants as mark
 use Rattle.bw_sql.specs.declared.reader.Refusal.{Refusal}
 use Rattle.bw_sql.specs.declared.reader.Refusal.TheVariants.{Syntax, Literal}
 use Rattle.bw_sql.specs.Demand.{is_met}
-use Rattle.bw_sql.specs.Expected.{is_all_read, left_of, unread}
+use Rattle.bw_sql.specs.Expected.{is_all_read, left_of, tokens_left}
 use Rattle.bw_sql.specs.Frontier.{Viable}
 use Rattle.bw_sql.specs.Grammar.{IsQuery}
 use Rattle.bw_sql.specs.QueryShape.{QueryShape}
@@ -42,14 +42,14 @@ module _ (schema : Schema) (tokens : List Lexeme) where
       let none = eqb-true (left_at why (after_sign false before) (length after)) 0 all in
       absurd (omega (arith, none, some_left why (after_sign false before) (length after)))
 
-  pub goes_on : is_all_read (unread schema tokens) ≡ true → Viable schema (is_met schema) tokens
+  pub goes_on : is_all_read (tokens_left schema tokens) ≡ true → Viable schema (is_met schema) tokens
   goes_on all = go (statement_at schema tokens) refl all where
     go : (r : Result QueryShape Halt) → statement_at schema tokens ≡ r → is_all_read (left_of r) ≡ true →
         Viable schema (is_met schema) tokens
     go (Ok query) e all = whole_viable (ran_so schema tokens (Ok query) e)
     go (Err halt) e all = stopped_viable (ran_so schema tokens (Err halt) e) all
 
-  path_read : (middle : List Symbol) → Path (is_met schema) (AStatement ∷ []) tokens middle → is_all_read (unread schema tokens) ≡ true
+  path_read : (middle : List Symbol) → Path (is_met schema) (AStatement ∷ []) tokens middle → is_all_read (tokens_left schema tokens) ≡ true
   unfolding run
   path_read middle p = go (statement_at schema tokens) refl where
     runs : run schema false (AStatement ∷ []) tokens ≡ run schema (after_sign false tokens) middle []
@@ -64,19 +64,19 @@ module _ (schema : Schema) (tokens : List Lexeme) where
         let same : record { why = Syntax; left = 0 } ≡ halt = cc in subst (λ (h : Halt). (h.left == 0) ≡ true) same refl) in
         rw e left
 
-  pub begun_read : Viable schema (is_met schema) tokens → is_all_read (unread schema tokens) ≡ true
+  pub begun_read : Viable schema (is_met schema) tokens → is_all_read (tokens_left schema tokens) ≡ true
   begun_read v = go (ran_so schema (tokens ++ v.more) (Ok v.query) (query_read schema (tokens ++ v.more) v.query v.spelled)) where
-    go : Ran schema false (AStatement ∷ []) (tokens ++ v.more) (Ok tt) → is_all_read (unread schema tokens) ≡ true
+    go : Ran schema false (AStatement ∷ []) (tokens ++ v.more) (Ok tt) → is_all_read (tokens_left schema tokens) ≡ true
     go (whole last p m) = let part = path_split schema (AStatement ∷ []) tokens v.more last p in path_read part.0 part.1
 
-  pub ended_spelled : is_none (unread schema tokens) ≡ true → (query : QueryShape) × IsQuery schema tokens query
+  pub ended_spelled : is_none (tokens_left schema tokens) ≡ true → (query : QueryShape) × IsQuery schema tokens query
   ended_spelled none = go (statement_at schema tokens) refl none where
     go : (r : Result QueryShape Halt) → statement_at schema tokens ≡ r → is_none (left_of r) ≡ true →
         (query : QueryShape) × IsQuery schema tokens query
     go (Ok query) e none = (query, query_spelled schema tokens query e)
     go (Err halt) e none = cc
 
-  pub spelled_ended : (query : QueryShape) × IsQuery schema tokens query → is_none (unread schema tokens) ≡ true
+  pub spelled_ended : (query : QueryShape) × IsQuery schema tokens query → is_none (tokens_left schema tokens) ≡ true
   spelled_ended spelled = rw (query_read schema tokens spelled.0 spelled.1) refl
 
 -- each kind is tried

@@ -8,7 +8,8 @@ use Rattle.std.proofs.lemmas.Option.{slice_get_cases, slice_get_past}
 use Rattle.bw_model.specs.declared.fault.Fault.{Fault}
 use Rattle.bw_model.specs.declared.query.Query.{Query}
 use Rattle.bw_model.specs.declared.schema.Schema.{Schema}
-use Rattle.bw_model.specs.Fault.{at_byte, is_memory}
+use Rattle.bw_model.specs.Fault.{at_byte, is_memory, no_memory}
+use Rattle.bw_model.proofs.ErrLemmas.{memory_is}
 use Rattle.bw_sql.specs.declared.reader.Refusal.{Refusal}
 use Rattle.bw_sql.specs.declared.reader.Refusal.TheVariants.{Syntax, UnknownTable, UnknownColumn}
 use Rattle.bw_sql.specs.declared.reader.Refusal.TheVariants.{Literal, MixedItems, Nesting}
@@ -119,11 +120,11 @@ not_refused : (schema : Schema) (text : List ℕ) (query : QueryShape) (fault : 
 not_refused schema text query fault s r =
     let both = read_same schema text (Err fault) (Ok query) r (spelled_read schema text query s) in cc
 
-pub err_is_memory : (schema : Schema) (text : List ℕ) (result : Result Query Fault) →
+pub only_memory : (schema : Schema) (text : List ℕ) (result : Result Query Fault) →
     (length text ≤ longest_statement → Answers schema text result) → (query : QueryShape) → Spells schema text query →
-    IfErr result (λ fault. is_memory fault ≡ true)
-err_is_memory schema text (Ok query) exact q s = tt
-err_is_memory schema text (Err fault) exact q s = bool_cases (is_memory fault) (λ m. m)
+    IfErr result (λ fault. fault ≡ no_memory)
+only_memory schema text (Ok query) exact q s = tt
+only_memory schema text (Err fault) exact q s = bool_cases (is_memory fault) (λ m. memory_is fault m)
     (λ m. absurd (not_refused schema text q fault s (exact s.short m)))
 
 -- the first error is one

@@ -30,8 +30,8 @@ left_of (Ok query) = None
 left_of (Err halt) = Some halt.left
 
 -- how many tokens are left where reading stops; none, if the tokens spell a query
-abbrev pub unread : Schema → List Lexeme → Option ℕ
-unread schema tokens = left_of (statement_at schema tokens)
+abbrev pub tokens_left : Schema → List Lexeme → Option ℕ
+tokens_left schema tokens = left_of (statement_at schema tokens)
 
 -- reading stops at the end of the tokens, or they spell a query
 abbrev pub is_all_read : Option ℕ → Bool
@@ -39,8 +39,8 @@ is_all_read None = true
 is_all_read (Some left) = left == 0
 
 abbrev pub goes_on_with : Schema → List Lexeme → Option Lexeme → Bool
-goes_on_with schema tokens None = is_none (unread schema tokens)
-goes_on_with schema tokens (Some t) = is_all_read (unread schema (tokens ++ t ∷ []))
+goes_on_with schema tokens None = is_none (tokens_left schema tokens)
+goes_on_with schema tokens (Some t) = is_all_read (tokens_left schema (tokens ++ t ∷ []))
 
 -- the sample is read after the tokens; or, for the end, the tokens spell a query
 abbrev pub is_expected : Schema → List Lexeme → Expected → Bool

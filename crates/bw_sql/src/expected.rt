@@ -9,7 +9,7 @@ ghost use Rattle.bw_sql.specs.declared.expected.Expected.{Expected};
 ghost use Rattle.bw_sql.specs.declared.expected.Expected.TheVariants.{End};
 ghost use Rattle.bw_sql.specs.Cut.{IsCut, Spot};
 ghost use Rattle.bw_sql.specs.Demand.{is_met};
-ghost use Rattle.bw_sql.specs.Expected.{is_expected, sample, unread};
+ghost use Rattle.bw_sql.specs.Expected.{is_expected, sample, tokens_left};
 ghost use Rattle.bw_sql.specs.Frontier.{Viable};
 ghost use Rattle.bw_sql.specs.Grammar.{IsQuery};
 ghost use Rattle.bw_sql.specs.QueryShape.{QueryShape};
@@ -153,10 +153,10 @@ fn is_expected<'a>(
     ensures only_oom { IsOkUnless result no_memory }
 {
     match expected.sample(schema) {
-        None => Ok(unread(alloc, schema, tokens)?.is_none()),
+        None => Ok(tokens_left(alloc, schema, tokens)?.is_none()),
         Some(token) => {
             tokens.push(PlacedToken { token, at: 0 })?;
-            let left = unread(alloc, schema, tokens)?;
+            let left = tokens_left(alloc, schema, tokens)?;
             tokens.pop();
             Ok(left.unwrap_or(0) == 0)
         }
@@ -164,12 +164,12 @@ fn is_expected<'a>(
 }
 
 /// Returns how many tokens are left where the parser stops, or none if they are a statement.
-fn unread(
+fn tokens_left(
     alloc: Global,
     schema: &Schema,
     tokens: &[PlacedToken<'_>],
 ) -> Result<Option<usize>, Fault>
-    ensures left { IfOk result (λ left. left ≡ unread schema.now (lexemes tokens.now)) }
+    ensures left { IfOk result (λ left. left ≡ tokens_left schema.now (lexemes tokens.now)) }
     ensures only_oom { IsOkUnless result no_memory }
 {
     match statement(alloc, schema, tokens) {

@@ -18,10 +18,10 @@
 #![tactic(auto)]
 
 ghost use Rattle.std.specs.Prelude.{List, ℕ, Option, ◌≡◌, ◌<◌, ◌≤◌, length, IfOk, IfErr, IsTrue};
-ghost use Rattle.std.specs.Prelude.{vec_len};
+ghost use Rattle.std.specs.Prelude.{IsOkUnless, vec_len};
 ghost use Rattle.std.specs.List.{list_all};
 ghost use Rattle.bw_model.specs.FaultTable.{STATEMENT_TOO_LONG};
-ghost use Rattle.bw_model.specs.Fault.{at_byte, is_memory};
+ghost use Rattle.bw_model.specs.Fault.{at_byte, no_memory};
 ghost use Rattle.bw_model.specs.Cond.{names_within, is_whole};
 ghost use Rattle.bw_model.specs.SchemaText.{schema_shape};
 ghost use Rattle.bw_model.specs.FaultPlaces.{StandsAsListed};
@@ -72,7 +72,7 @@ pub const MAX_LEN: usize = 65_536;
 pub fn parse(alloc: Global, schema: &Schema, text: &[u8]) -> Result<Query, Fault>
     ensures read { Parses schema.now text.now result }
     ensures refused { (query : QueryShape) → Spells schema.now text.now query
-        → IfErr result (λ fault. IsTrue (is_memory fault)) }
+        → IsOkUnless result no_memory }
     ensures too_long { longest_statement < length text.now
         → result ≡ Err (at_byte STATEMENT_TOO_LONG longest_statement) }
     ensures columns { IfOk result (λ query.

@@ -56,7 +56,7 @@ impl<'a> Lines<'a> {
     }
 
     /// Returns the unread text.
-    pub fn unread(&self) -> &'a [u8]
+    pub fn rest(&self) -> &'a [u8]
         ensures { result.now ≡ self.now.text }
     {
         self.text

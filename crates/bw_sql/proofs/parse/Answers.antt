@@ -2,7 +2,7 @@
 use Rattle.std.proofs.Common.{◌∙◌}
 use Rattle.bw_model.specs.declared.query.Query.{Query}
 use Rattle.bw_model.proofs.SameLemmas.{names_within-tree_of, is_whole-tree_of}
-use Rattle.bw_sql.proofs.Texts.{err_is_memory, parsed}
+use Rattle.bw_sql.proofs.Texts.{only_memory, parsed}
 use Rattle.bw_sql.proofs.Within.{if_good}
 use Rattle.bw_sql.proofs.parse.Goals as goal
 
@@ -12,7 +12,7 @@ returns c =
     let if_read = λ (P : Query → Type 0). if_good c.args.schema.now c.args.text.now c.read.result P read in
     record {
       read = read;
-      refused = err_is_memory c.args.schema.now c.args.text.now c.read.result c.read.ensures.exact;
+      refused = only_memory c.args.schema.now c.args.text.now c.read.result c.read.ensures.exact;
       too_long = c.read.ensures.too_long;
       columns = if_read _ (λ query good. names_within-tree_of _ query.cond ∙ good.within);
       whole = if_read _ (λ query good. is_whole-tree_of query.cond ∙ good.whole);

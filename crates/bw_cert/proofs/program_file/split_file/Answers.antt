@@ -16,7 +16,7 @@ pub returns-then-divides-clause-cut : goal.returns-then-divides-clause-cut
 returns-then-divides-clause-cut c =
     let line = c.in-Some.ensures.line in
     let number = c.in-Some.ensures.number in
-    rw (c.unread.ensures, c.number.ensures, number) (cut_there _ _ _ _ c.in-Some.line.now _ c.lines.invariant line (sym c.divides.ensures ∙ c.if-divides.true))
+    rw (c.rest.ensures, c.number.ensures, number) (cut_there _ _ _ _ c.in-Some.line.now _ c.lines.invariant line (sym c.divides.ensures ∙ c.if-divides.true))
 
 pub returns-then-divides-clause-first : goal.returns-then-divides-clause-first
 returns-then-divides-clause-first c =
@@ -29,7 +29,7 @@ pub overflow_sub-read : goal.overflow_sub-read
 overflow_sub-read c =
     let total = within _ _ _ _ c.lines.invariant in
     let less = shorter _ _ _ c.in-Some.ensures.split c.in-Some.ensures.line in
-    let rest = ap length c.unread-in-Some.ensures in
+    let rest = ap length c.rest-in-Some.ensures in
     omega (arith, total, less, rest)
 
 pub lines-smaller : goal.lines-smaller
@@ -37,7 +37,7 @@ lines-smaller c = shorter _ _ _ c.in-Some.ensures.split c.in-Some.ensures.line
 
 pub lines-preserved : goal.lines-preserved
 lines-preserved c =
-    rw (c.unread-in-Some.ensures, c.in-Some.ensures.number) (passed _ _ _ _ c.in-Some.line.now _ c.lines.invariant c.in-Some.ensures.split c.in-Some.ensures.line (sym c.divides.ensures ∙ c.if-divides.false))
+    rw (c.rest-in-Some.ensures, c.in-Some.ensures.number) (passed _ _ _ _ c.in-Some.line.now _ c.lines.invariant c.in-Some.ensures.split c.in-Some.ensures.line (sym c.divides.ensures ∙ c.if-divides.false))
 
 pub returns-clause-cut : goal.returns-clause-cut
 returns-clause-cut c =

@@ -14,13 +14,13 @@ loop-number-init c = record {
   room = c.in_ok-edges.ensures.0 ∙ ap (λ n. n + 1) c.len.ensures.count;
 }
 
-pub returns-in_err-rest-clause-judged : goal.returns-in_err-rest-clause-judged
-returns-in_err-rest-clause-judged c =
+pub returns-in_err-rest-clause-checked : goal.returns-in_err-rest-clause-checked
+returns-in_err-rest-clause-checked c =
     let walking = c.loop-number.invariant.walking in
     rw (err_passed_on _ c.from_residual-in_err-rest.ensures.1) (λ _. walking.told ∙ walked_refused _ _ _ _ _ _ _ _ c.instr-instr.ensures.instr c.in_err-rest.ensures.fault)
 
-pub returns-in_err-rest-2-clause-judged : goal.returns-in_err-rest-2-clause-judged
-returns-in_err-rest-2-clause-judged c =
+pub returns-in_err-rest-2-clause-checked : goal.returns-in_err-rest-2-clause-checked
+returns-in_err-rest-2-clause-checked c =
     let walking = c.loop-number.invariant.walking in
     let holds = c.in_ok-add.ensures.holds walking.edges walking.holds in
     rw (err_passed_on _ c.from_residual-in_err-rest-2.ensures.1) (λ _. walking.told ∙ walked_on _ _ _ _ _ _ _ _ _ _ _ c.instr-instr.ensures.instr c.in_ok-rest.ensures.taken (sym (suc-is c.loop-number.number))
@@ -40,5 +40,5 @@ loop-number-preserved c =
       room = c.add.ensures.capacity ∙ c.loop-number.invariant.room;
     }
 
-pub returns-clause-judged : goal.returns-clause-judged
-returns-clause-judged c = c.loop-number.invariant.walking.told ∙ walked_end _ _ _ _ _ _ (omega (arith, c.loop-number-test.false, c.len-number-end.ensures.count))
+pub returns-clause-checked : goal.returns-clause-checked
+returns-clause-checked c = c.loop-number.invariant.walking.told ∙ walked_end _ _ _ _ _ _ (omega (arith, c.loop-number-test.false, c.len-number-end.ensures.count))

@@ -94,7 +94,7 @@ memory_text-requires-clause-scan g c =
 pub returns-in_err-query-clause-accepted : goal.returns-in_err-query-clause-accepted
 returns-in_err-query-clause-accepted g c =
     let no = rw c.table.ensures.table at (rw c.schema.ensures at c.in_err-query.ensures.refused) in
-    rw (err_passed_on _ c.from_residual.ensures.1) (λ query asks. inl (memory_output c.in_err-query.field-0.0 (no (query_shape query) asks.0)))
+    rw (err_passed_on _ c.from_residual.ensures.1) (λ query asks. inl (memory_output c.in_err-query.field-0.0 (ap is_memory (no (query_shape query) asks.0))))
 
 pub returns-in_err-read_named-clause-accepted : goal.returns-in_err-read_named-clause-accepted
 returns-in_err-read_named-clause-accepted g c =

@@ -1,6 +1,6 @@
 -- A program file that is accepted is rejected only if memory runs out.
-use Rattle.bw_model.proofs.ErrLemmas.{err_passed_on}
-use Rattle.bw_query.proofs.ScanLemmas.{memory_is, only_memory}
+use Rattle.bw_model.proofs.ErrLemmas.{err_passed_on, memory_is}
+use Rattle.bw_query.proofs.ScanLemmas.{only_memory}
 use Rattle.bw_query.proofs.scan.scan_for.Goals as goal
 
 pub returns-in_err-check_file-in-Some-clause-accepted : goal.returns-in_err-check_file-in-Some-clause-accepted

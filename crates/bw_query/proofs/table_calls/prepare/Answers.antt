@@ -6,7 +6,7 @@ use Rattle.bw_model.specs.declared.column.Column.{Column}
 use Rattle.bw_sql.specs.QueryShape.{QueryShape, query_shape}
 use Rattle.bw_sql.specs.Refusal.{is_statement_fault}
 use Rattle.bw_query.specs.Scan.{IsUsable, given_file}
-use Rattle.bw_query.proofs.ScanLemmas.{memory_is, usable}
+use Rattle.bw_query.proofs.ScanLemmas.{usable}
 use Rattle.bw_query.proofs.TableExits.{file_writes_nothing, no_failed_read}
 use Rattle.bw_query.proofs.TableExits.{statement_writes_nothing}
 use Rattle.bw_query.proofs.table_calls.prepare.Goals as goal
@@ -26,7 +26,7 @@ pub returns-in_err-query-clause-accepted : goal.returns-in_err-query-clause-acce
 returns-in_err-query-clause-accepted c =
     rw (err_passed_on _ c.from_residual.ensures.1) (λ other query same asks.
     let spelled = c.schemas_of_one_shape.ensures.spelled other c.args.schema.now c.args.sql.now (query_shape query) (sym same) asks.0 in
-    memory_is _ (c.in_err-query.ensures.refused (query_shape query) spelled))
+    c.in_err-query.ensures.refused (query_shape query) spelled)
 
 pub returns-in_err-scan-clause-accepted : goal.returns-in_err-scan-clause-accepted
 returns-in_err-scan-clause-accepted c =

@@ -46,10 +46,10 @@ returns-then-not-is_empty c = λ kept.
     let olds = drop_all c.loop-i.i c.args.olds.now c.loop-i-test.false in
     let news = drop_all c.loop-i.i c.args.news.now (omega (arith, c.if-olds-news.false, c.loop-i-test.false)) in
     rw (c.at_line-then-not-is_empty.ensures, c.number-then-not-is_empty.ensures)
-    (c.loop-i.invariant.so_far ∙ from-line _ _ _ c.loop-i.lines.text _ olds news (some_bytes c.loop-i.lines.text (rw c.unread.ensures at (sym c.is_empty.ensures ∙ c.if-not-is_empty.true))))
+    (c.loop-i.invariant.so_far ∙ from-line _ _ _ c.loop-i.lines.text _ olds news (some_bytes c.loop-i.lines.text (rw c.rest.ensures at (sym c.is_empty.ensures ∙ c.if-not-is_empty.true))))
 
 pub returns : goal.returns
 returns c =
     let olds = drop_all c.loop-i.i c.args.olds.now c.loop-i-test.false in
     let news = drop_all c.loop-i.i c.args.news.now (omega (arith, c.if-olds-news.false, c.loop-i-test.false)) in
-    c.loop-i.invariant.so_far ∙ from-end _ _ _ c.loop-i.lines.text _ olds news (eqb-true (length c.loop-i.lines.text) 0 (rw c.unread.ensures at (sym c.is_empty.ensures ∙ c.if-not-is_empty.false)))
+    c.loop-i.invariant.so_far ∙ from-end _ _ _ c.loop-i.lines.text _ olds news (eqb-true (length c.loop-i.lines.text) 0 (rw c.rest.ensures at (sym c.is_empty.ensures ∙ c.if-not-is_empty.false)))

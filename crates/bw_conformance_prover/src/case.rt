@@ -56,7 +56,7 @@ impl Case<'_> {
     /// Returns what the prover makes of a program. Ends the test if the checker rejects its
     /// certificate, if a certified program is wrong on the case's rows, or if a row or a segment
     /// that is to show a wrong program doesn't.
-    pub(crate) fn judge(
+    pub(crate) fn verdict(
         self,
         rt: &impl Abort,
         alloc: Global,
@@ -71,7 +71,7 @@ impl Case<'_> {
                 self.assert_accepted(rt, alloc, program, &certificate);
                 Ok(Verdict::Certified)
             }
-            Err(unproved) => self.refused(rt, alloc, &program, &unproved),
+            Err(unproved) => self.verdict_on_refusal(rt, alloc, &program, &unproved),
         }
     }
 
@@ -101,8 +101,8 @@ impl Case<'_> {
         }
     }
 
-    /// Judges why there is no certificate.
-    fn refused(
+    /// Checks why there is no certificate.
+    fn verdict_on_refusal(
         self,
         rt: &impl Abort,
         alloc: Global,

@@ -1,9 +1,9 @@
-//! The kinds of the lines after the product rows, without their numbers.
+//! The forms of the lines after the product rows, without their numbers.
 ghost use Rattle.std.specs.Prelude.{◌≡◌, ◌<◌};
 
-/// The kind of a line. If a number may be `-`, a flag states whether there is one.
+/// The form of a line. If a number may be `-`, a flag states whether there is one.
 #[derive(Clone, Copy)]
-pub(crate) enum Kind {
+pub(crate) enum StoredForm {
     Compare {
         chain: bool,
         value: bool,
@@ -38,7 +38,7 @@ pub(crate) struct KeptRegister {
     pub ghost in_range: { register < 64 },
 }
 
-impl Kind {
+impl StoredForm {
     ghost use Rattle.bw_cert_text.specs.StoredLines.{size};
 
     /// Returns how many numbers such a line has, the first of which is the line's own.
@@ -46,12 +46,17 @@ impl Kind {
         ensures { result ≡ size self }
     {
         match self {
-            Kind::Fixed | Kind::Not | Kind::Fill | Kind::Skip => 1,
-            Kind::NullTest | Kind::Is | Kind::Load | Kind::Op | Kind::Byte { .. } | Kind::Join => 2,
-            Kind::And | Kind::Or | Kind::IsUnknown => 3,
-            Kind::Keep(_) => 4,
-            Kind::Compare { .. } => 5,
-            Kind::CompareColumns { .. } => 7,
+            StoredForm::Fixed | StoredForm::Not | StoredForm::Fill | StoredForm::Skip => 1,
+            StoredForm::NullTest
+            | StoredForm::Is
+            | StoredForm::Load
+            | StoredForm::Op
+            | StoredForm::Byte { .. }
+            | StoredForm::Join => 2,
+            StoredForm::And | StoredForm::Or | StoredForm::IsUnknown => 3,
+            StoredForm::Keep(_) => 4,
+            StoredForm::Compare { .. } => 5,
+            StoredForm::CompareColumns { .. } => 7,
         }
     }
 }
