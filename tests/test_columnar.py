@@ -328,12 +328,12 @@ class Others(Loaded):
             damaged[place] |= 128
         first = outcome(bytes(damaged), "SELECT * FROM t")
         for spelled, data, said, error in (
-                ("TABLE", whole[:-1], "", "101 syntax at line 1"),
+                ("TABLE", whole[:-1], "", "101 line form at line 1"),
                 (good, whole[:-1], "", f"305 truncated at byte {len(whole) - 1}"),
                 (good, whole + b"x", "", f"309 bytes after the end at byte {len(whole)}"),
                 (good, bytes(damaged), text + "KEEP\n",
                  f"203 record length at line {len(COLUMNS) + 1}"),
-                (good, bytes(damaged), text, first[4:].removesuffix(" (status 3)"))):
+                (good, bytes(damaged), text, f"308 padding {first[4:]}")):
             schema.write_text(spelled, encoding="ascii")
             path.write_bytes(data)
             numbers.write_text(said, encoding="ascii")
