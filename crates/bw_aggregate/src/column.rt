@@ -91,6 +91,7 @@ pub(crate) fn none_beyond<S: Segment>(
     segment: &S,
     col: usize,
     rows: &Selection,
+    are_few: bool,
     so_far: Option<i128>,
     which: Extreme,
 ) -> bool
@@ -106,7 +107,8 @@ pub(crate) fn none_beyond<S: Segment>(
     };
     match code_of_value(lowest(segment, col), total) {
         Some(code) => {
-            is_last(segment, col, code, which) || segment.none_beyond(col, rows, code, which)
+            is_last(segment, col, code, which)
+                || segment.none_beyond(col, rows, are_few, code, which)
         }
         None => false,
     }
@@ -119,6 +121,7 @@ pub(crate) fn no_value_below<S: Segment>(
     segment: &S,
     col: usize,
     rows: &Selection,
+    are_few: bool,
     so_far: Option<i128>,
 ) -> bool
     requires { col < length (S.meaning segment.now).columns }
@@ -134,7 +137,13 @@ pub(crate) fn no_value_below<S: Segment>(
     match code_of_value(lowest(segment, col), total) {
         Some(code) => {
             is_last(segment, col, code, Extreme::Least)
-                || segment.none_beyond(col, &present(segment, col, rows), code, Extreme::Least)
+                || segment.none_beyond(
+                    col,
+                    &present(segment, col, rows),
+                    are_few,
+                    code,
+                    Extreme::Least,
+                )
         }
         None => false,
     }

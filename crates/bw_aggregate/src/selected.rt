@@ -75,8 +75,9 @@ fn total_of<S: Segment>(
     }
 }
 
-/// One of more rows than this is usually null, if the column is nullable.
-const SOME: u32 = 16;
+/// The most rows that are few. If the column is nullable, one of more is usually null. And one of
+/// more often has the first digits of the maximum or the minimum, so more digits are compared.
+const FEW: u32 = 16;
 
 /// Returns true only if the selected rows of a segment, `number` of them, leave a total so far as
 /// it is. The code of a null is 0, which is above no other, so a maximum needn't look at nulls, and
@@ -96,16 +97,17 @@ fn leaves_total<S: Segment>(
         → combine_totals item so_far None ≡ combine_totals item so_far
         (total item (selected_rows (S.meaning segment.now) (lanes_of_words selection.now))) }
 {
+    let are_few = number <= FEW;
     match item {
         Item::Min(col) => {
             let nullable = segment.schema().columns[col].nullable;
-            if nullable && number > SOME {
-                return no_value_below(segment, col, selection, so_far);
+            if nullable && !are_few {
+                return no_value_below(segment, col, selection, are_few, so_far);
             }
-            none_beyond(segment, col, selection, so_far, Extreme::Least)
-                || nullable && no_value_below(segment, col, selection, so_far)
+            none_beyond(segment, col, selection, are_few, so_far, Extreme::Least)
+                || nullable && no_value_below(segment, col, selection, are_few, so_far)
         }
-        Item::Max(col) => none_beyond(segment, col, selection, so_far, Extreme::Greatest),
+        Item::Max(col) => none_beyond(segment, col, selection, are_few, so_far, Extreme::Greatest),
         Item::Plain(_) | Item::CountAll | Item::Count(_) | Item::Sum(_) => false,
     }
 }

@@ -82,8 +82,15 @@ impl Segment for AnySegment {
         with_segment!(self, segment => segment.max_code(col, rows))
     }
 
-    fn none_beyond(&self, col: usize, rows: &Selection, other: u64, which: Extreme) -> bool {
-        with_segment!(self, segment => segment.none_beyond(col, rows, other, which))
+    fn none_beyond(
+        &self,
+        col: usize,
+        rows: &Selection,
+        are_few: bool,
+        other: u64,
+        which: Extreme,
+    ) -> bool {
+        with_segment!(self, segment => segment.none_beyond(col, rows, are_few, other, which))
     }
 
     fn codes(&self, col: usize, codes: &mut [u64; LANES]) {

@@ -12,7 +12,7 @@ ghost use Rattle.bw_planes.specs.Planes.{plane_packing, planes_codes};
 use crate::compare::{at_least, byte_at_least, eq, equal_step};
 use crate::sum::{is_dense, sum_in_planes, sum_in_word};
 use bw_lanes::{
-    LANES, Plane, Selection, and, bytes_bit, count, is_zero, load, not, or, push_bit, to_bytes,
+    LANES, Plane, Selection, and, bytes_bit, is_zero, load, not, or, push_bit, to_bytes,
 };
 use bw_model::Fault;
 use bw_segment::{CodeLayout, Extreme, push_byte, put_byte, slices_of};
@@ -106,10 +106,11 @@ impl CodeLayout for Planes {
         width: u32,
         bytes: &[u8],
         lanes: &Selection,
+        are_few: bool,
         other: u64,
         which: Extreme,
     ) -> bool {
-        if FIRST < width && count(lanes) <= SOME {
+        if are_few && FIRST < width {
             are_far(width, bytes, lanes, FIRST, other, which)
         } else {
             are_many_far(width, bytes, lanes, other, which)
@@ -192,9 +193,6 @@ fn none_is_near(width: u32, bytes: &[u8], most: u64) -> bool
 /// If a code of few is above or below the one of many others that is the maximum or the minimum,
 /// this many of its highest digits are the same as that code's, or beyond them.
 const FIRST: u32 = 6;
-
-/// Of more codes than this, one often has these digits too. More of them are compared.
-const SOME: u32 = 16;
 
 /// Returns true only if the highest digits, this many, show that no code in these lanes is beyond
 /// `other`. It is compiled into its callers, so that the loop over a few digits is unrolled.

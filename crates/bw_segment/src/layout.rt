@@ -117,8 +117,16 @@ pub trait CodeLayout {
         ensures bound { IfSome result (λ code. code < 2 ^ 63) };
 
     /// Returns true only if no code in these lanes is beyond `other`: above it, or below it if the
-    /// least is sought. It may return false then too: only some of the highest digits are read.
-    fn none_beyond(width: u32, bytes: &[u8], lanes: &Selection, other: u64, which: Extreme) -> bool
+    /// least is sought. It may return false then too: only some of the highest digits are read, and
+    /// fewer of them if the caller says that the lanes are few.
+    fn none_beyond(
+        width: u32,
+        bytes: &[u8],
+        lanes: &Selection,
+        are_few: bool,
+        other: u64,
+        which: Extreme,
+    ) -> bool
         requires width { (1 ≤ width) × (width ≤ 63) }
         requires size { length bytes.now ≡ packing.size width }
         requires small { All (λ code. code < 2 ^ width) (packing.codes width bytes.now) }

@@ -92,9 +92,16 @@ impl<L: CodeLayout, B: Blocks> Segment for PackedSegment<L, B> {
     }
 
     #[tactic(auto, unfolding(crate::specs::Selected::codes_in))]
-    fn none_beyond(&self, col: usize, rows: &Selection, other: u64, which: Extreme) -> bool {
+    fn none_beyond(
+        &self,
+        col: usize,
+        rows: &Selection,
+        are_few: bool,
+        other: u64,
+        which: Extreme,
+    ) -> bool {
         let (width, codes) = self.column_codes(col);
-        L::none_beyond(width, codes, rows, other, which)
+        L::none_beyond(width, codes, rows, are_few, other, which)
     }
 
     fn codes(&self, col: usize, codes: &mut [u64; LANES]) {

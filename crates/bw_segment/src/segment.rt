@@ -82,9 +82,16 @@ pub trait Segment {
 
     /// Returns true only if no code of a column in these rows is beyond `other`: above it, or below
     /// it if the least is sought. It may return false then too: where most digits would have to be
-    /// read, the maximum or the minimum is found as fast. Null, and the rows past the last one, have
-    /// code 0.
-    fn none_beyond(&self, col: usize, rows: &Selection, other: u64, which: Extreme) -> bool
+    /// read, the maximum or the minimum is found as fast. The caller says whether the rows are few:
+    /// of few, fewer digits are read. Null, and the rows past the last one, have code 0.
+    fn none_beyond(
+        &self,
+        col: usize,
+        rows: &Selection,
+        are_few: bool,
+        other: u64,
+        which: Extreme,
+    ) -> bool
         requires column { col < length (meaning self.now).columns }
         requires other { other < 2 ^ 63 }
         ensures { result ≡ true → list_any (is_beyond (is_greatest which) other)

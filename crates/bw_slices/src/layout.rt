@@ -18,10 +18,6 @@ use bw_segment::{CodeLayout, Extreme, bytes_of, push_byte, put_byte};
 /// all lanes.
 const FEW: u32 = 24;
 
-/// The most lanes whose highest bytes are compared one by one with that of a minimum or a maximum.
-/// The highest byte of one of more codes is often the same, and more bytes are compared.
-const SOME: u32 = 16;
-
 /// Codes stored as byte slices. For each byte of the codes, from the most significant down, there
 /// are 512 bytes, of which byte i is lane i's.
 pub struct Slices;
@@ -107,10 +103,11 @@ impl CodeLayout for Slices {
         width: u32,
         bytes: &[u8],
         lanes: &Selection,
+        are_few: bool,
         other: u64,
         which: Extreme,
     ) -> bool {
-        if count(lanes) > SOME {
+        if !are_few {
             return none_beyond(width, bytes, lanes, other, which);
         }
         let slice = slices_in(width) - 1;

@@ -17,8 +17,8 @@ returns-then-none_beyond g c = λ is.
     subst (λ (item : Item). combine_totals item c.args.so_far None ≡ combine_totals item c.args.so_far (total item (selected_rows meaning lanes))) (sym c.in-Min.is)
     (minimum_left meaning c.in-Min.col found.1 found.0 c.args.so_far lanes (g.met.S.Segment.is_group c.args.segment.now) there c.requires.selection found.2 found.3 (none_in_present (is_beyond false found.1) meaning c.in-Min.col lanes found.4))
 
-pub returns-then-number-gt-SOME : goal.returns-then-number-gt-SOME
-returns-then-number-gt-SOME g c = λ is.
+pub returns-then-not-are_few : goal.returns-then-not-are_few
+returns-then-not-are_few g c = λ is.
     let meaning = g.S.Segment.meaning c.args.segment.now in
     let lanes = lanes_of_words c.args.selection.now in
     let there = ltb-true c.in-Min.col (length meaning.columns) (sym (ap (item_within (length meaning.columns)) c.in-Min.is) ∙ c.requires.column) in
