@@ -34,9 +34,9 @@ impl FormulaReader<'_> {
     }
 
     /// Returns whether a column's code is at least the first limit and below the second, or isn't if
-    /// `inverted`.
-    fn codes(&self, column: usize, limits: [i128; 2], inverted: bool) -> FormulaResult {
-        let set = Set::between(self.alloc, self.schema, column, limits, inverted)?;
+    /// `is_inverted`.
+    fn codes(&self, column: usize, limits: [i128; 2], is_inverted: bool) -> FormulaResult {
+        let set = Set::between(self.alloc, self.schema, column, limits, is_inverted)?;
         Ok(Formula::Codes(set).simplify(self.schema))
     }
 }

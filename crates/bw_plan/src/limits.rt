@@ -51,7 +51,7 @@ pub(crate) const MAX_CONDITION_ROWS: u32 = 70_000;
 pub(crate) const FORECAST_FROM: u32 = 3000;
 
 /// The most product rows of a certificate: as many take 20 MB to plan. Seven columns of 63 bits that
-/// are each less than the next take 76,602 (2026-12-01). To repeat it: count the lines ROW of `bw
+/// are each less than the next take 76,596 (2026-12-01). To repeat it: count the lines ROW of `bw
 /// plan`.
 pub(crate) const MAX_ROWS: u32 = 80_000;
 

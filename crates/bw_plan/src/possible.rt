@@ -12,8 +12,8 @@ impl Formula {
         match self {
             Formula::Fixed(truth) => TruthSet::one(*truth),
             Formula::Codes(set) => TruthSet {
-                yes: set.inverted || !set.bounds.is_empty(),
-                no: !set.inverted || !set.bounds.is_empty(),
+                yes: set.is_inverted || !set.bounds.is_empty(),
+                no: !set.is_inverted || !set.bounds.is_empty(),
                 unknown: is_nullable(schema, set.column),
             },
             Formula::Columns(compared) => TruthSet {

@@ -14,29 +14,29 @@ pub(crate) struct Set {
     /// The slice of the most significant byte of the column's codes.
     pub(crate) top: SliceIndex,
     pub(crate) bounds: Vec<u64>,
-    pub(crate) inverted: bool,
+    pub(crate) is_inverted: bool,
 }
 
 impl Set {
     /// Returns the codes of a column that are at least the first limit and below the second, or the
-    /// others if `inverted`.
+    /// others if `is_inverted`.
     pub(crate) fn between(
         alloc: Global,
         schema: &Schema,
         column: usize,
         limits: [i128; 2],
-        inverted: bool,
+        is_inverted: bool,
     ) -> Result<Self, Unplanned> {
         let width = width_of(schema, column).min(63);
         let mut set = Set {
             column: index_of(column),
             top: (width.saturating_sub(1) / 8) as u8,
             bounds: Vec::new(alloc),
-            inverted,
+            is_inverted,
         };
         for limit in limits {
             if limit >= 1 << width {
-                set.inverted = !set.inverted;
+                set.is_inverted = !set.is_inverted;
             } else if limit > 0 {
                 set.bounds.push(limit as u64)?;
             }
@@ -47,7 +47,7 @@ impl Set {
     /// Returns the column's other codes.
     pub(crate) fn inverse(self) -> Self {
         Set {
-            inverted: !self.inverted,
+            is_inverted: !self.is_inverted,
             ..self
         }
     }
@@ -65,7 +65,7 @@ impl Set {
 
     /// Returns whether it has the codes between a bound, by its number, and the one before.
     fn has_below(&self, bound: usize) -> bool {
-        (self.bounds.len() % 2 != bound % 2) != self.inverted
+        (self.bounds.len() % 2 != bound % 2) != self.is_inverted
     }
 
     /// Returns the codes that both it and another set of the column have, or that either has.
@@ -100,7 +100,7 @@ impl Set {
             column: self.column,
             top: self.top,
             bounds,
-            inverted: has,
+            is_inverted: has,
         })
     }
 }

@@ -61,9 +61,9 @@ impl Code<'_> {
                 let needed = TruthPair::of(*truth != Truth::No, *truth != Truth::Yes);
                 let made = self.truths(part, needed)?;
                 let held = self.either(made)?;
-                let inverted = *truth == Truth::Unknown;
-                let made = self.sides(held, &[], wanted.opposite_if(inverted))?;
-                Ok(made.opposite_if(inverted))
+                let is_inverted = *truth == Truth::Unknown;
+                let made = self.sides(held, &[], wanted.opposite_if(is_inverted))?;
+                Ok(made.opposite_if(is_inverted))
             }
             Formula::Not(part) => {
                 let made = self.truths(part, wanted.opposite_if(true))?;
@@ -154,14 +154,14 @@ impl Code<'_> {
         let first = self.open_skips();
         let skips = self.skips.count;
         let held = self.codes(set)?;
-        let wanted = wanted.opposite_if(set.inverted);
+        let wanted = wanted.opposite_if(set.is_inverted);
         let made = if self.skips.count > skips {
             self.sides_by_skips(held, &[set.column], wanted)?
         } else {
             self.sides(held, &[set.column], wanted)?
         };
         self.meet_from(first);
-        Ok(made.opposite_if(set.inverted))
+        Ok(made.opposite_if(set.is_inverted))
     }
 
     /// Returns the registers of a comparison of two columns. Its skips meet right after its own

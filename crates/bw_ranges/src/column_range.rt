@@ -1,5 +1,5 @@
 //! Ranges of a column's values, and comparisons of values in them.
-ghost use Rattle.std.specs.Prelude.{◌≡◌, ◌≤◌, ℕ, ℤ, Some, IsTrue};
+ghost use Rattle.std.specs.Prelude.{◌≡◌, ◌≤◌, ◌||◌, ℕ, ℤ, Some, IsTrue};
 ghost use Rattle.bw_model.specs.Code.{code_of, span_of, value_of_code};
 ghost use Rattle.bw_model.specs.Column.{admits_value};
 ghost use Rattle.bw_model.specs.Row.{Value};
@@ -70,6 +70,26 @@ impl ColumnRange {
             least: 1,
             greatest: 0,
             has_nulls: true,
+        }
+    }
+
+    /// Returns the least range that has the values of both.
+    pub fn hull(&self, other: &ColumnRange) -> Self
+        ensures { (value : Value) → IsTrue (has_value self.now value || has_value other.now value)
+            → IsTrue (has_value result value) }
+    {
+        let has_nulls = self.has_nulls | other.has_nulls;
+        match (self.has_numbers(), other.has_numbers()) {
+            (false, _) => ColumnRange {
+                has_nulls,
+                ..*other
+            },
+            (true, false) => ColumnRange { has_nulls, ..*self },
+            (true, true) => ColumnRange {
+                least: self.least.min(other.least),
+                greatest: self.greatest.max(other.greatest),
+                has_nulls,
+            },
         }
     }
 
