@@ -2,6 +2,7 @@
 ghost use Rattle.std.specs.Prelude.{◌≡◌, None, false};
 ghost use Rattle.bw_io.specs.RandomAccess.{access_state};
 
+use crate::failure::Reads;
 use crate::in_file::InFile;
 use bw_io::{Failed, RandomAccess};
 
@@ -23,6 +24,11 @@ impl<'f> FileAt<'f> {
             failures: 0,
             is_confirmed: false,
         }
+    }
+
+    /// Returns whether the file's reads failed so far, and why.
+    pub fn reads(&self) -> Reads {
+        self.file.reads()
     }
 }
 

@@ -1,5 +1,5 @@
 //! `bw session`, and its prompts and reports beside its results.
-ghost use Rattle.std.specs.Prelude.{IfOk, None};
+ghost use Rattle.std.specs.Prelude.{◌≡◌, IfOk, None, true};
 ghost use Rattle.bw_memory.specs.Columnar.{table_in};
 ghost use Rattle.bw_memory.specs.Columns.{IsBlank};
 ghost use Rattle.bw_memory.specs.MemoryTable.{schema_of};
@@ -16,7 +16,8 @@ use bw_file::ToWrite;
 use bw_memory::{ColumnStore, ColumnarTable, FileColumns, is_by_columns};
 use bw_model::{Fault, Schema, code};
 use bw_shell::{
-    Listener, MemoryTable, ProgramCache, Served, answer_statements, report, stats_line,
+    Listener, MemoryTable, ProgramCache, Served, answer_statements, report, settled_line,
+    stats_line,
 };
 use std::io::IsTerminal;
 
@@ -33,8 +34,9 @@ pub fn run_session<'a>(
     let mut file = open(rt, table_path)?;
     let files = read_programs(rt, paths)?;
     if is_by_columns(&mut FileAt::new(&mut file)) {
-        let columnar = header_of(rt, table_path, &mut file)?;
-        let columns = FileColumns::new(rt.alloc(), FileAt::new(&mut file), columnar);
+        let mut device = FileAt::new(&mut file);
+        let columnar = header_of(rt, table_path, &mut device)?;
+        let columns = FileColumns::new(rt.alloc(), device, columnar);
         answer_over(
             rt,
             &mut or_failure(columns, &[])?,
@@ -144,14 +146,16 @@ fn table_of<'a>(
 fn header_of<'a>(
     rt: &HostRuntime,
     path: &'a str,
-    file: &mut InFile,
+    device: &mut FileAt,
 ) -> Result<ColumnarTable, CommandFailure<'a>>
-    ensures { IfOk result (λ columnar. IsBlank (table_in columnar)) }
+    requires { device.old.failures ≡ 0 }
+    ensures blank { IfOk result (λ columnar. IsBlank (table_in columnar)) }
+    ensures confirmed { IfOk result (λ _. device.new.is_confirmed ≡ true) }
+    ensures failures { IfOk result (λ _. device.new.failures ≡ 0) }
 {
-    let done = ColumnarTable::open(rt.alloc(), &mut FileAt::new(file));
-    match done {
+    match ColumnarTable::open(rt.alloc(), device) {
         Ok(columnar) => Ok(columnar),
-        Err(fault) => Err(CommandFailure::of(fault, &[(path, file.reads())], None)),
+        Err(fault) => Err(CommandFailure::of(fault, &[(path, device.reads())], None)),
     }
 }
 
@@ -202,6 +206,12 @@ impl Listener for Teller<'_> {
 
     fn note_answer(&mut self, served: &Served) {
         if self.stats && stats_line(served, &mut ToWrite::new(self.rt.stderr())).is_err() {
+            self.lost = true;
+        }
+    }
+
+    fn note_settled(&mut self, segments: u32) {
+        if self.stats && settled_line(segments, &mut ToWrite::new(self.rt.stderr())).is_err() {
             self.lost = true;
         }
     }

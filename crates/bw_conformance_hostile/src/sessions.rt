@@ -49,6 +49,8 @@ impl Listener for Counter {
         self.answered = self.answered.saturating_add(1);
     }
 
+    fn note_settled(&mut self, _segments: u32) {}
+
     fn note_refusal(&mut self, _statement: &[u8], _fault: &Fault) {
         self.rejected = self.rejected.saturating_add(1);
     }

@@ -3,6 +3,7 @@ ghost use Rattle.std.specs.Prelude.{ℕ, List, [], Option, Some, Result, Ok};
 ghost use Rattle.bw_model.specs.declared.fault.Fault.{Fault};
 ghost use Rattle.bw_model.specs.declared.query.Query.{Query};
 ghost use Rattle.bw_model.specs.declared.schema.Schema.{Schema};
+ghost use Rattle.bw_model.specs.Groups.{groups_of};
 ghost use Rattle.bw_model.specs.Row.{Value};
 ghost use Rattle.bw_model.specs.SchemaText.{IsSchemaText, schema_shape};
 ghost use Rattle.bw_io.specs.Sink.{WriteOutcome, none_aside, sink_state};
@@ -23,7 +24,7 @@ use bw_cert::{certificates_are_checked_by_their_fields, one_verdict, valid_exact
 /// for them. `answer` accepts a plan as the program file of its statement over every table whose
 /// schema that text spells: the statement spells a query under that schema, and the file is
 /// accepted for each query that it spells. The plan's own program serves the query, with the loads
-/// and skips of its runs, over any rows, and so over the table of a file.
+/// and skips of its runs, over any groups of rows, and so over the table of a file.
 pub fn a_kept_plan_is_used()
     ensures written { (text sql plan : List ℕ) (given : Result (List ℕ) Fault) (before after : ℕ)
         → IsPlanned text sql given → WriteOutcome {T = Unit {0}} none_aside
@@ -36,17 +37,17 @@ pub fn a_kept_plan_is_used()
         → IsSchemaText text (schema_shape schema) → IsReadAs schema sql (Ok query)
         → by_statement (Some plan) sql schema (Ok query) }
     ensures served { (text sql plan : List ℕ) (schema : Schema) (query : Query)
-        (rows : List (List Value))
+        (groups : List (List (List Value)))
         (served : Served) → (kept : IsPlan text sql plan) → IsSchemaText text (schema_shape schema)
-        → IsServed (Some plan) schema query rows served
-        → ByProgram kept.program schema.columns.items rows served }
+        → IsServed (Some plan) schema query groups served
+        → ByProgram kept.program schema.columns.items groups served }
     ensures file { (text sql plan bytes : List ℕ) (layout : Layout) (schema : Schema)
         (rows : List (List Value))
         (old new : Option (List ℕ)) (served : Served) → (kept : IsPlan text sql plan)
         → IsFileBytes bytes layout schema rows → IsSchemaText text (schema_shape schema)
         → (answers : AnswersFile (by_statement (Some plan) sql) bytes old new)
-        → IsServed (Some plan) answers.schema answers.query answers.rows served
-        → ByProgram kept.program schema.columns.items rows served }
+        → IsServed (Some plan) answers.schema answers.query (groups_of answers.rows) served
+        → ByProgram kept.program schema.columns.items (groups_of rows) served }
 {
     valid_exactly_where_checked();
     certificates_are_checked_by_their_fields();

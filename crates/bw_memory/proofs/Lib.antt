@@ -12,3 +12,6 @@ pub mod ReadLemmas
 pub mod WrittenColumnar
 pub mod CutColumnar
 pub mod UndamagedColumnar
+pub mod AppendedBlocks
+pub mod RangeLemmas
+pub mod SettleLemmas

@@ -2,7 +2,7 @@
 use Rattle.std.proofs.Common.{◌≡◌, ◌≢◌, ◌∙◌, ◌⊎◌, refl, sym, ap, subst, ℕ, ◌+◌, ◌<◌, ◌≤◌, Bool, true, false}
 use Rattle.std.proofs.Common.{ap₂, ◌*◌, List, [], length, take, drop, Option, Result, Ok, inl, inr, arith}
 use Rattle.std.specs.Prelude.{IfSome}
-use Rattle.std.proofs.lemmas.Bool.{cases_eq, cases_lt}
+use Rattle.std.proofs.lemmas.Bool.{cases_eq}
 use Rattle.bw_segment.proofs.FrontLemmas.{if_some}
 use Rattle.bw_model.specs.declared.column.Column.{Column}
 use Rattle.bw_model.specs.declared.fault.Fault.{Fault}
@@ -16,7 +16,7 @@ use Rattle.bw_file.specs.Reading.{Tail, tail}
 use Rattle.bw_file.specs.TableReading.{HeaderShape}
 use Rattle.bw_memory.specs.declared.columnar.ColumnarTable.{ColumnarTable}
 use Rattle.bw_memory.specs.Columnar.{HasBlock, HasColumns, HasDamage, HasReadColumn, IsOpened, SameHeader, StatesTable, column_count}
-use Rattle.bw_memory.specs.Columnar.{head_size, place_in, table_in}
+use Rattle.bw_memory.specs.Columnar.{head_size, table_in}
 use Rattle.bw_memory.specs.Columns.{IsBlank, block_in}
 use Rattle.bw_memory.specs.MemoryTable.{layout_of, schema_of, segments_in}
 

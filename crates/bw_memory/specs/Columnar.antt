@@ -115,24 +115,28 @@ IsColumnFault known columnar column fault =
     * block_size (layout_of (table_in columnar)) (schema_of (table_in columnar)).columns.items column)
     fault
 
--- these blocks, back to back, are valid ones of a column in all segments
-abbrev pub AreValidBlocks : ColumnarTable → ℕ → List ℕ → Type 0
-AreValidBlocks columnar column blocks = (number : ℕ) → number < segments_in (table_in columnar)
+-- these blocks, back to back, are valid ones of a column in the first `count` segments
+abbrev pub AreValidBlocks : ColumnarTable → ℕ → ℕ → List ℕ → Type 0
+AreValidBlocks columnar column count blocks = (number : ℕ) → number < count
     → block_fault (layout_of (table_in columnar)) (schema_of (table_in columnar)).columns.items column
     (rows_numbered (table_in columnar).rows number) (piece_of blocks
     (block_size (layout_of (table_in columnar)) (schema_of (table_in columnar)).columns.items column)
     number) ≡ None
 
--- they are as many as the column has, and those of the file, if its bytes are known
-pub record AreFileBlocks (known : Option (List ℕ)) (columnar : ColumnarTable) (column : ℕ)
+-- they are that many, and those of the file, if its bytes are known
+pub record AreFirstBlocks (known : Option (List ℕ)) (columnar : ColumnarTable) (column count : ℕ)
     (blocks : List ℕ) : Type 0 where
-  pub long : length blocks ≡ segments_in (table_in columnar)
+  pub long : length blocks ≡ count
       * block_size (layout_of (table_in columnar)) (schema_of (table_in columnar)).columns.items column
-  pub valid : AreValidBlocks columnar column blocks
-  pub are : (number : ℕ) → number < segments_in (table_in columnar)
-      → IfSome known (HasBlock columnar column number (piece_of blocks
-      (block_size (layout_of (table_in columnar)) (schema_of (table_in columnar)).columns.items column)
-      number))
+  pub valid : AreValidBlocks columnar column count blocks
+  pub are : (number : ℕ) → number < count → IfSome known (HasBlock columnar column number
+      (piece_of blocks (block_size (layout_of (table_in columnar))
+      (schema_of (table_in columnar)).columns.items column) number))
+
+-- they are those of all segments
+abbrev pub AreFileBlocks : Option (List ℕ) → ColumnarTable → ℕ → List ℕ → Type 0
+AreFileBlocks known columnar column blocks =
+    AreFirstBlocks known columnar column (segments_in (table_in columnar)) blocks
 
 -- the number of columns
 abbrev pub column_count : ColumnarTable → ℕ

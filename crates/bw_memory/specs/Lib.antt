@@ -9,3 +9,6 @@ pub mod MemoryTable
 pub mod ReadSegments
 pub mod NamedRows
 pub mod Windows
+pub mod ColumnState
+pub mod Ranges
+pub mod Settled

@@ -3,9 +3,9 @@ use bw_model::Fault;
 
 /// Whether a column has been read, or what its error is.
 #[derive(Clone, Copy)]
-pub(crate) enum ColumnState {
+pub enum ColumnState {
     Unread,
     Read,
-    /// Reading it again would find this error again.
+    /// It has this error, which each later read returns.
     Damaged(Fault),
 }

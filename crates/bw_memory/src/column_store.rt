@@ -1,13 +1,18 @@
 //! Tables whose columns are in memory, or are read when they are needed.
-ghost use Rattle.std.specs.Prelude.{◌≡◌, ◌<◌, ◌≤◌, ℕ, Bool, IfErr, IsTrue, OnOk, false, length, true};
+ghost use Rattle.std.specs.Prelude.{◌≡◌, ◌≢◌, ◌<◌, ◌≤◌, ℕ, Bool, IfErr, IfOk, IsOkUnless, IsTrue, OnOk};
+ghost use Rattle.std.specs.Prelude.{false, length, true};
+ghost use Rattle.bw_model.specs.Fault.{no_memory};
 ghost use Rattle.bw_io.specs.Source.{is_read_fault};
 ghost use Rattle.bw_file.specs.TableReading.{IsTableFault};
+ghost use Rattle.bw_memory.specs.ColumnState.{IsReadAgain, IsStateAfter};
 ghost use Rattle.bw_memory.specs.ColumnStore.{ColumnSource, HasColumn, HasColumnFault, IsTableOf};
 ghost use Rattle.bw_memory.specs.MemoryTable.{schema_of};
+ghost use Rattle.bw_memory.specs.Settled.{AreWithoutMatch, HasNoneSettled};
+ghost use Rattle.bw_memory.specs.declared.column_state.ColumnState.{ColumnState};
 ghost use Rattle.bw_memory.specs.declared.table.MemoryTable.{MemoryTable};
 
 use crate::table::MemoryTable;
-use bw_model::Fault;
+use bw_model::{Cond, Fault};
 use std::alloc::Global;
 
 /// A table whose columns are in memory, or are read from a file by columns when they are needed.
@@ -21,6 +26,9 @@ pub trait ColumnStore {
     /// Whether the file is read no more, since a read failed or the file has changed.
     ghost is_lost: { Self → Bool };
 
+    /// What is known of a column.
+    ghost state: { Self → ℕ → ColumnState };
+
     /// How many calls of the file's device have failed.
     ghost failures: { Self → ℕ };
 
@@ -32,7 +40,8 @@ pub trait ColumnStore {
 
     /// Reads a column, unless it is in memory. Errors: those of the file in this column (306 to 308,
     /// 305); 701 if a read fails, or the file has changed, or that was so before; 801 if memory is
-    /// refused. The columns that were read stay.
+    /// refused. The columns that were read stay. A column that was read, or whose error was found,
+    /// has the same result again.
     fn read(&mut self, alloc: Global, column: usize) -> Result<(), Fault>
         requires { column < length (schema_of (table self.old)).columns.items }
         ensures read { OnOk result (HasColumn (source self.old) (table self.new) column) }
@@ -46,19 +55,42 @@ pub trait ColumnStore {
         ensures lost { IfErr result (λ fault. IsTrue (is_read_fault fault)
             → is_lost self.new ≡ true) }
         ensures found { OnOk result (is_lost self.new ≡ is_lost self.old) }
+        ensures told { IfErr result (λ fault. is_lost self.old ≡ false → is_lost self.new ≡ true
+            → is_read_fault fault ≡ true) }
         ensures failed { is_lost self.old ≡ false → is_lost self.new ≡ true
             → failures self.old < failures self.new }
-        ensures count { failures self.old ≤ failures self.new };
+        ensures count { failures self.old ≤ failures self.new }
+        ensures again { IsReadAgain (is_lost self.old) (state self.old column) result }
+        ensures state { IsStateAfter result (state self.new column) }
+        ensures states { (other : ℕ) → other ≢ column
+            → state self.new other ≡ state self.old other };
+
+    /// Returns of which groups of four segments a condition is TRUE on no row, as far as the ranges
+    /// of these columns tell. Of a group past the last one nothing is told. The table and its source
+    /// stay. Errors: 801 if memory is refused.
+    fn settle(&mut self, alloc: Global, cond: &Cond, columns: &[usize]) -> Result<Vec<bool>, Fault>
+        ensures settled { IfOk result (λ settled.
+            AreWithoutMatch cond.now (table self.old) settled.items) }
+        ensures in_memory { IfOk result (λ settled. HasNoneSettled (source self.old) settled.items) }
+        ensures table { table self.new ≡ table self.old }
+        ensures source { source self.new ≡ source self.old }
+        ensures same { is_lost self.new ≡ is_lost self.old }
+        ensures failures { failures self.new ≡ failures self.old }
+        ensures state { (column : ℕ) → state self.new column ≡ state self.old column }
+        ensures only_oom { IsOkUnless result no_memory };
 }
 
 impl ColumnStore for MemoryTable {
     ghost use Rattle.bw_memory.specs.ColumnStore.{in_memory};
+    ghost use Rattle.bw_memory.specs.declared.column_state.ColumnState.TheVariants.{Read};
 
     ghost table = { λ table. table };
 
     ghost source = { in_memory };
 
     ghost is_lost = { λ table. false };
+
+    ghost state = { λ table column. Read };
 
     ghost failures = { λ table. 0 };
 
@@ -68,5 +100,14 @@ impl ColumnStore for MemoryTable {
 
     fn read(&mut self, _alloc: Global, _column: usize) -> Result<(), Fault> {
         Ok(())
+    }
+
+    fn settle(
+        &mut self,
+        alloc: Global,
+        _cond: &Cond,
+        _columns: &[usize],
+    ) -> Result<Vec<bool>, Fault> {
+        Ok(Vec::new(alloc))
     }
 }

@@ -1,7 +1,8 @@
 //! The columns of a file by columns, each of which is read when it is needed.
 ghost use Rattle.std.proofs.Props.{props};
-ghost use Rattle.std.specs.Prelude.{◌≡◌, ◌-◌, ◌^◌, ◌<◌, ◌≤◌, IfErr, IfOk, IsTrue, OnErr, OnOk, false, length};
-ghost use Rattle.std.specs.Prelude.{true};
+ghost use Rattle.std.specs.Prelude.{◌≡◌, ◌≢◌, ◌-◌, ◌^◌, ◌<◌, ◌≤◌, ℕ, IfErr, IfOk, IsTrue, OnErr, OnOk, false};
+ghost use Rattle.std.specs.Prelude.{IsOkUnless, length, slice_set, true};
+ghost use Rattle.bw_model.specs.Fault.{no_memory};
 ghost use Rattle.bw_io.specs.Source.{is_input_fault, is_read_fault};
 ghost use Rattle.bw_file.specs.TableReading.{IsTableFault};
 ghost use Rattle.bw_memory.specs.Columnar.{AreFileBlocks, HasReadColumn, IsColumnFault, column_count};
@@ -10,15 +11,22 @@ ghost use Rattle.bw_memory.specs.ColumnStore.{header_of, in_file};
 ghost use Rattle.bw_memory.specs.Columns.{IsBlank};
 ghost use Rattle.bw_memory.specs.FileColumns.{HasColumnDamage, HasColumnsRead, IsBlankElsewhere};
 ghost use Rattle.bw_memory.specs.FileColumns.{state_of};
+ghost use Rattle.bw_memory.specs.MemoryTable.{schema_of};
+ghost use Rattle.bw_memory.specs.Ranges.{AreRangesOf, HaveRanges};
+ghost use Rattle.bw_memory.specs.ColumnState.{IsStateAfter};
 ghost use Rattle.bw_memory.specs.declared.column_state.ColumnState.TheVariants as state;
 ghost use Rattle.bw_memory.specs.Failed.{has_failed_to_read};
 
+use crate::column_ranges::{ColumnRanges, column_ranges};
 use crate::column_state::ColumnState;
 use crate::column_store::ColumnStore;
 use crate::columnar::ColumnarTable;
+use crate::settling::settled_groups;
 use crate::table::MemoryTable;
+use bw_file::in_layout;
 use bw_io::RandomAccess;
-use bw_model::{Fault, Place, code};
+use bw_model::{Cond, Fault, Place, code};
+use bw_ranges::ColumnRange;
 use std::alloc::Global;
 
 /// A file by columns and its table. A column is read when it is first needed, and stays in memory; so
@@ -29,10 +37,13 @@ pub struct FileColumns<D: RandomAccess + Drop> {
     pub(crate) device: D,
     pub(crate) columnar: ColumnarTable,
     pub(crate) states: Vec<ColumnState>,
+    /// The ranges of columns that conditions named. They are forgotten when a column is read.
+    pub(crate) ranges: Vec<ColumnRanges>,
     pub(crate) is_lost: bool,
     ghost all: { length states.items ≡ column_count columnar },
     ghost have: { HasColumnsRead (D.state device).known columnar states.items } by { Prim.hlevel props },
     ghost blank: { IsBlankElsewhere columnar states.items },
+    ghost ranged: { HaveRanges (table_in columnar) ranges.items },
     ghost damage: { HasColumnDamage (D.state device).known columnar states.items },
     ghost counter_fits: { is_lost ≡ false → (D.state device).failures < 2 ^ 64 - 1 },
     ghost confirmed: { is_lost ≡ false → (D.state device).confirmed ≡ true },
@@ -42,20 +53,20 @@ impl<D: RandomAccess + Drop> FileColumns<D> {
     /// Returns the columns of a file by columns, given the file and its table as it was opened, with
     /// no column read.
     ///
-    /// Errors: 701 if the file has changed since it was opened; 801 if memory is refused. The
-    /// device's count of failures must be less than 2^64 - 1.
-    pub fn new(alloc: Global, mut device: D, columnar: ColumnarTable) -> Result<Self, Fault>
+    /// The file must have been found unchanged since the last read, as [`ColumnarTable::open`] finds
+    /// it, and its device's count of failures be less than 2^64 - 1. Errors: 801 if memory is refused.
+    pub fn new(alloc: Global, device: D, columnar: ColumnarTable) -> Result<Self, Fault>
         requires counter_fits { (D.state device).failures < 2 ^ 64 - 1 }
+        requires confirmed { (D.state device).confirmed ≡ true }
         requires blank { IsBlank (table_in columnar) }
         ensures table { IfOk result (λ columns. columns.columnar ≡ columnar) }
         ensures known { IfOk result (λ columns. (D.state columns.device).known
             ≡ (D.state device).known) }
         ensures found { IfOk result (λ columns. columns.is_lost ≡ false) }
-        ensures fault { IfErr result (λ fault. IsTrue (is_input_fault fault)) }
+        ensures unread { IfOk result (λ columns. (column : ℕ)
+            → state_of columns.states.items column ≡ state.Unread) }
+        ensures only_oom { IsOkUnless result no_memory }
     {
-        if device.confirm().is_err() {
-            return Err(Fault::new(code::READ_FAILED));
-        }
         let count = columnar.table().schema().columns.len();
         let mut states = Vec::with_capacity(alloc, count)?;
         states.resize(count, ColumnState::Unread)?;
@@ -63,6 +74,7 @@ impl<D: RandomAccess + Drop> FileColumns<D> {
             device,
             columnar,
             states,
+            ranges: Vec::new(alloc),
             is_lost: false,
         })
     }
@@ -84,9 +96,14 @@ impl<D: RandomAccess + Drop> FileColumns<D> {
         ensures lost { IfErr result (λ fault. IsTrue (is_read_fault fault)
             → self.new.is_lost ≡ true) }
         ensures found { OnOk result (self.new.is_lost ≡ false) }
+        ensures told { IfErr result (λ fault. self.new.is_lost ≡ true
+            → is_read_fault fault ≡ true) }
         ensures failed { self.new.is_lost ≡ true → (D.state self.old.device).failures
             < (D.state self.new.device).failures }
         ensures count { (D.state self.old.device).failures ≤ (D.state self.new.device).failures }
+        ensures state { IsStateAfter result (state_of self.new.states.items column) }
+        ensures states { (other : ℕ) → other ≢ column
+            → state_of self.new.states.items other ≡ state_of self.old.states.items other }
     {
         let done = self.columnar.column_blocks(alloc, &mut self.device, column);
         if has_failed_to_read(&done) || self.device.confirm().is_err() {
@@ -116,8 +133,11 @@ impl<D: RandomAccess + Drop> FileColumns<D> {
             self.new.columnar column }
         ensures device { self.new.device ≡ self.old.device }
         ensures same { self.new.is_lost ≡ self.old.is_lost }
+        ensures states { self.new.states.items
+            ≡ slice_set self.old.states.items column state.Read }
     {
         self.columnar.put_column(alloc, column, blocks);
+        self.ranges = Vec::new(alloc);
         self.states[column] = ColumnState::Read;
     }
 
@@ -131,9 +151,42 @@ impl<D: RandomAccess + Drop> FileColumns<D> {
         ensures columnar { self.new.columnar ≡ self.old.columnar }
         ensures device { self.new.device ≡ self.old.device }
         ensures same { self.new.is_lost ≡ self.old.is_lost }
+        ensures states { self.new.states.items
+            ≡ slice_set self.old.states.items column (state.Damaged fault) }
     {
         self.states[column] = ColumnState::Damaged(fault);
     }
+}
+
+impl<D: RandomAccess + Drop> FileColumns<D> {
+    /// Keeps the ranges of a column that was read, unless they are kept already. Errors: 801 if memory
+    /// is refused.
+    fn keep_ranges(&mut self, alloc: Global, column: usize) -> Result<(), Fault>
+        ensures columnar { self.new.columnar ≡ self.old.columnar }
+        ensures device { self.new.device ≡ self.old.device }
+        ensures states { self.new.states ≡ self.old.states }
+        ensures same { self.new.is_lost ≡ self.old.is_lost }
+        ensures only_oom { IsOkUnless result no_memory }
+    {
+        if !matches!(self.states.get(column), Some(ColumnState::Read))
+            || self.ranges.iter().any(|kept| kept.column == column)
+        {
+            return Ok(());
+        }
+        let groups = ranges_of(alloc, self.columnar.table(), column)?;
+        self.ranges.push(ColumnRanges { column, groups })?;
+        Ok(())
+    }
+}
+
+/// Returns the ranges of a column's values in a table. Errors: 801 if memory is refused.
+#[tactic(auto, unfolding(bw_file::specs::Blocks::form_of))]
+fn ranges_of(alloc: Global, table: &MemoryTable, column: usize) -> Result<Vec<ColumnRange>, Fault>
+    requires { column < length (schema_of table.now).columns.items }
+    ensures ranges { IfOk result (λ ranges. AreRangesOf table.now column ranges.items) }
+    ensures only_oom { IsOkUnless result no_memory }
+{
+    in_layout!(table.layout(), column_ranges::<_>(alloc, table, column))
 }
 
 /// Returns whether a read failed.
@@ -156,6 +209,8 @@ impl<D: RandomAccess + Drop> ColumnStore for FileColumns<D> {
 
     ghost is_lost = { λ columns. columns.is_lost };
 
+    ghost state = { λ columns. state_of columns.states.items };
+
     ghost failures = { λ columns. (D.state columns.device).failures };
 
     fn table(&self) -> &MemoryTable {
@@ -169,5 +224,17 @@ impl<D: RandomAccess + Drop> ColumnStore for FileColumns<D> {
             ColumnState::Unread if self.is_lost => Err(Fault::new(code::READ_FAILED)),
             ColumnState::Unread => self.read_from_file(alloc, column),
         }
+    }
+
+    fn settle(
+        &mut self,
+        alloc: Global,
+        cond: &Cond,
+        columns: &[usize],
+    ) -> Result<Vec<bool>, Fault> {
+        for column in columns {
+            self.keep_ranges(alloc, *column)?;
+        }
+        settled_groups(alloc, self.columnar.table(), &self.ranges, cond)
     }
 }

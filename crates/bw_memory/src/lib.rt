@@ -25,6 +25,7 @@
 //! ```
 #![tactic(auto)]
 
+mod column_ranges;
 mod column_state;
 mod column_store;
 mod columnar;
@@ -36,9 +37,11 @@ mod layouts;
 mod opening;
 mod reading;
 mod segment_window;
+mod settling;
 mod table;
 mod windows;
 
+pub use column_state::ColumnState;
 pub use column_store::ColumnStore;
 pub use columnar::ColumnarTable;
 pub use file_columns::FileColumns;

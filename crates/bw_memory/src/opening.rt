@@ -1,5 +1,5 @@
 //! Opens a file by columns, and reads its columns.
-ghost use Rattle.std.specs.Prelude.{◌≡◌, ◌+◌, ◌*◌, ◌/◌, ◌-◌, ◌^◌, ◌<◌, length, take};
+ghost use Rattle.std.specs.Prelude.{◌≡◌, ◌≢◌, ◌⊎◌, ◌+◌, ◌*◌, ◌/◌, ◌-◌, ◌^◌, ◌<◌, length, take};
 ghost use Rattle.std.specs.Prelude.{ℕ, List, Option, true, false, IfErr, IfOk, IfSome, OnOk, OnErr};
 ghost use Rattle.bw_io.specs.Source.{failed_by, is_input_fault};
 ghost use Rattle.bw_file.specs.declared.order.FileOrder.TheVariants.{ByColumns};
@@ -17,6 +17,7 @@ ghost use Rattle.bw_memory.specs.MemoryTable.{layout_of, schema_of, segments_in}
 
 use crate::columnar::ColumnarTable;
 use crate::filling::fill_at;
+use crate::segment_window::SegmentWindow;
 use crate::table::MemoryTable;
 use bw_file::{FileOrder, ParsedHeader, block_size, parse_header, segment_size};
 use bw_io::{Failed, RandomAccess};
@@ -28,8 +29,12 @@ use std::alloc::Global;
 #[tactic(auto, unfolding(bw_file::specs::FileBytes::magic))]
 pub fn is_by_columns<D: RandomAccess>(device: &mut D) -> bool
     requires { (D.state device.old).failures < 2 ^ 64 - 1 }
-    ensures { result ≡ true
+    ensures found { result ≡ true
         → IfSome (D.state device.old).known (λ bytes. take 8 bytes ≡ magic ByColumns) }
+    ensures missed { result ≡ false
+        → ((D.state device.old).failures < (D.state device.new).failures)
+        ⊎ IfSome (D.state device.old).known (λ bytes. take 8 bytes ≢ magic ByColumns) }
+    ensures same { (D.state device.new).known ≡ (D.state device.old).known }
 {
     let mut first = [0u8; 8];
     fill_at(device, 0, &mut first).is_ok() && first == *b"BWBYCOLS"
@@ -42,14 +47,16 @@ impl ColumnarTable {
     /// Opens a file by columns: reads its header and its length, and no column.
     ///
     /// Errors: the header's, 301 to 305 and 310; 305 at the file's length, if it is shorter than its
-    /// columns, and 309 at the end of its columns, if it is longer; 701 if a read fails; 801 if
-    /// memory is refused. The device's count of failures must be less than 2^64 - 1.
+    /// columns, and 309 at the end of its columns, if it is longer; 701 if a read fails, or the file
+    /// has changed; 801 if memory is refused. The device's count of failures must be less than
+    /// 2^64 - 1.
     pub fn open<D: RandomAccess>(alloc: Global, device: &mut D) -> Result<Self, Fault>
         requires { (D.state device.old).failures < 2 ^ 64 - 1 }
         ensures opened { IfOk result (IsOpened (D.state device.old).known) }
         ensures blank { IfOk result (λ columnar. IsBlank (table_in columnar)) }
         ensures refused { IfErr result (IsOpenFault (D.state device.old).known) }
         ensures fault { IfErr result IsTableFault }
+        ensures confirmed { IfOk result (λ _. (D.state device.new).confirmed ≡ true) }
         ensures same { (D.state device.new).known ≡ (D.state device.old).known }
         ensures count { (D.state device.new).failures
             ≡ (D.state device.old).failures + failed_by result }
@@ -74,6 +81,9 @@ impl ColumnarTable {
         }
         if size > head + all {
             return Err(Fault::at_byte(code::BYTES_AFTER_END, head + all));
+        }
+        if device.confirm().is_err() {
+            return Err(Fault::new(code::READ_FAILED));
         }
         Ok(ColumnarTable { table, head })
     }
@@ -152,14 +162,15 @@ impl ColumnarTable {
         requires long { length blocks.items ≡ segments_in (table_in self.old)
             * block_size (layout_of (table_in self.old)) (schema_of (table_in self.old)).columns.items
             col }
-        requires valid { AreValidBlocks self.old col blocks.items }
+        requires valid { AreValidBlocks self.old col (segments_in (table_in self.old)) blocks.items }
         ensures { (known : Option (List ℕ)) → AreFileBlocks known self.old col blocks.items
             → HasReadColumn known self.old self.new col }
     {
         self.table.replace_column(alloc, col, blocks);
     }
 
-    /// Returns the blocks of a column in all segments, back to back, and validated. Errors: those of
+    /// Returns the blocks of a column in all segments, back to back. Those of some segments at a time
+    /// are read and validated, so that they are still in the processor's cache. Errors: those of
     /// [`ColumnarTable::read_column`].
     pub(crate) fn column_blocks<D: RandomAccess>(
         &self,
@@ -177,9 +188,14 @@ impl ColumnarTable {
         ensures count { (D.state device.new).failures
             ≡ (D.state device.old).failures + failed_by result }
     {
-        let mut blocks = Vec::new(alloc);
-        self.table
-            .read_blocks(device, col, self.place_of(col), &mut blocks)?;
+        let size = block_size(self.table.layout, &self.table.placement, col);
+        let mut blocks = Vec::with_capacity(alloc, self.table.segments as usize * size)?;
+        let mut window = SegmentWindow::of_column(alloc, self, col)?;
+        let mut buffer = Vec::new(alloc);
+        while window.end() < self.table.segments {
+            window.pass(alloc, self)?;
+            window.append_blocks(device, self, col, &mut buffer, &mut blocks)?;
+        }
         Ok(blocks)
     }
 

@@ -12,8 +12,9 @@ pub struct SegmentWindow {
     pub(crate) first: u32,
     /// The most segments that it has.
     pub(crate) most: u32,
-    /// What the blocks of the next column are read into.
-    pub(crate) spare: Vec<u8>,
+    /// What the blocks of a column are read into: those that it had before, so that their memory is
+    /// as long as is needed, and isn't cleared first.
+    pub(crate) spare: Vec<Vec<u8>>,
     ghost some: { 1 ≤ most },
     ghost early: { first ≤ 32768 },
 }

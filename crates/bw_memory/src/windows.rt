@@ -1,13 +1,15 @@
 //! Reads the segments of a file by columns, some at a time.
-ghost use Rattle.std.specs.Prelude.{◌≡◌, ◌≢◌, ◌⊎◌, ◌+◌, ◌/◌, ◌-◌, ◌^◌, ◌<◌, ◌≤◌, ℕ, List, Option, length};
-ghost use Rattle.std.specs.Prelude.{IfErr, IfOk, IfSome, IsOkUnless, OnOk};
+ghost use Rattle.std.specs.Prelude.{◌≡◌, ◌≢◌, ◌⊎◌, ◌+◌, ◌*◌, ◌/◌, ◌-◌, ◌^◌, ◌<◌, ◌≤◌, ℕ, List, Option};
+ghost use Rattle.std.specs.Prelude.{IfErr, IfOk, IfSome, IsOkUnless, OnOk, length};
 ghost use Rattle.bw_model.specs.Fault.{no_memory};
 ghost use Rattle.bw_model.specs.Limits.{most_rows};
 ghost use Rattle.bw_io.specs.Source.{failed_by};
 ghost use Rattle.bw_file.specs.TableReading.{IsTableFault};
-ghost use Rattle.bw_memory.specs.Columnar.{HasBlock, column_count, is_wanted, table_in};
+ghost use Rattle.bw_file.specs.Blocks.{block_size};
+ghost use Rattle.bw_memory.specs.Columnar.{AreFirstBlocks, HasBlock, IsColumnFault, column_count};
+ghost use Rattle.bw_memory.specs.Columnar.{is_wanted, place_in, table_in};
 ghost use Rattle.bw_memory.specs.Columns.{IsBlank, block_in};
-ghost use Rattle.bw_memory.specs.MemoryTable.{layout_of, placement_of, segments_in};
+ghost use Rattle.bw_memory.specs.MemoryTable.{layout_of, placement_of, schema_of, segments_in};
 ghost use Rattle.bw_memory.specs.Windows.{IsPart, IsWindow, end_of, first_in, most_at_once, most_in};
 ghost use Rattle.bw_memory.specs.Windows.{window_in};
 
@@ -39,11 +41,41 @@ impl SegmentWindow {
             most_in window ≡ most_at_once columnar.now (is_wanted wanted.now)) }
         ensures only_oom { IsOkUnless result no_memory }
     {
+        SegmentWindow::before_all(alloc, columnar, segments_at_once(columnar, wanted))
+    }
+
+    /// Does this for one column.
+    pub(crate) fn of_column(
+        alloc: Global,
+        columnar: &ColumnarTable,
+        col: usize,
+    ) -> Result<Self, Fault>
+        requires { col < column_count columnar.now }
+        ensures before { IfOk result (λ window. end_of window ≡ 0) }
+        ensures part { IfOk result (λ window.
+            IsPart columnar.now (first_in window) (window_in window)) }
+        ensures only_oom { IsOkUnless result no_memory }
+    {
+        let size = block_size(columnar.table.layout, &columnar.table.placement, col);
+        SegmentWindow::before_all(alloc, columnar, (WINDOW_SIZE / size.max(8)).max(1) as u32)
+    }
+
+    /// Returns a window without a segment, before the first one of a file, of which it will have at
+    /// most so many. Errors: 801 if memory is refused.
+    fn before_all(alloc: Global, columnar: &ColumnarTable, most: u32) -> Result<Self, Fault>
+        requires { 1 ≤ most }
+        ensures blank { IfOk result (λ window. IsBlank (window_in window)) }
+        ensures before { IfOk result (λ window. end_of window ≡ 0) }
+        ensures most { IfOk result (λ window. most_in window ≡ most) }
+        ensures part { IfOk result (λ window.
+            IsPart columnar.now (first_in window) (window_in window)) }
+        ensures only_oom { IsOkUnless result no_memory }
+    {
         Ok(SegmentWindow {
             table: columnar.blank(alloc, 0)?,
             first: 0,
-            most: segments_at_once(columnar, wanted),
-            spare: Vec::new(alloc),
+            most,
+            spare: no_bytes(alloc, columnar.table.placement.schema.columns.len())?,
         })
     }
 
@@ -100,7 +132,7 @@ impl SegmentWindow {
     }
 
     /// Passes to the next segments, of which no column has been read. Errors: 801 if memory is refused.
-    fn pass(&mut self, alloc: Global, columnar: &ColumnarTable) -> Result<(), Fault>
+    pub(crate) fn pass(&mut self, alloc: Global, columnar: &ColumnarTable) -> Result<(), Fault>
         requires more { end_of self.old < segments_in (table_in columnar.now) }
         requires part { IsPart columnar.now (first_in self.old) (window_in self.old) }
         ensures next { OnOk result (first_in self.new ≡ end_of self.old) }
@@ -122,6 +154,49 @@ impl SegmentWindow {
         }
         self.table = columnar.blank(alloc, rows)?;
         Ok(())
+    }
+
+    /// Reads the blocks of a column in its segments into a buffer, and adds them to those of the
+    /// segments before.
+    /// Errors: those of [`ColumnarTable::read_column`].
+    pub(crate) fn append_blocks<D: RandomAccess>(
+        &self,
+        device: &mut D,
+        columnar: &ColumnarTable,
+        col: usize,
+        buffer: &mut Vec<u8>,
+        blocks: &mut Vec<u8>,
+    ) -> Result<(), Fault>
+        requires counter_fits { (D.state device.old).failures < 2 ^ 64 - 1 }
+        requires column { col < column_count columnar.now }
+        requires part { IsPart columnar.now (first_in self.now) (window_in self.now) }
+        requires before { AreFirstBlocks (D.state device.old).known columnar.now col
+            (first_in self.now) blocks.old.items }
+        ensures added { OnOk result (AreFirstBlocks (D.state device.old).known columnar.now col
+            (end_of self.now) blocks.new.items) }
+        ensures refused { IfErr result (IsColumnFault (D.state device.old).known columnar.now col) }
+        ensures fault { IfErr result IsTableFault }
+        ensures same { (D.state device.new).known ≡ (D.state device.old).known }
+        ensures count { (D.state device.new).failures
+            ≡ (D.state device.old).failures + failed_by result }
+    {
+        let at = self.place_of(columnar, col);
+        self.table.read_blocks(device, col, at, buffer)?;
+        blocks.extend_from_slice(buffer)?;
+        Ok(())
+    }
+
+    /// Returns where its blocks of a column begin in the file.
+    fn place_of(&self, columnar: &ColumnarTable, col: usize) -> u64
+        requires column { col < column_count columnar.now }
+        requires part { IsPart columnar.now (first_in self.now) (window_in self.now) }
+        ensures place { result ≡ place_in columnar.now col 0 + first_in self.now
+            * block_size (layout_of (window_in self.now)) (schema_of (window_in self.now)).columns.items
+            col }
+        ensures bound { result < 2 ^ 62 }
+    {
+        let size = block_size(self.table.layout, &self.table.placement, col);
+        columnar.place_of(col) + self.first as u64 * size as u64
     }
 
     /// Reads its segments of a column. Errors: those of [`SegmentWindow::read_next`].
@@ -154,11 +229,11 @@ impl SegmentWindow {
         ensures count { (D.state device.new).failures
             ≡ (D.state device.old).failures + failed_by result }
     {
-        let size = block_size(self.table.layout, &self.table.placement, col);
-        let at = columnar.place_of(col) + self.first as u64 * size as u64;
-        let mut blocks = replace(&mut self.spare, Vec::new(alloc));
+        let at = self.place_of(columnar, col);
+        let mut blocks = take_bytes(alloc, &mut self.spare, col);
         self.table.read_blocks(device, col, at, &mut blocks)?;
-        self.spare = self.table.replace_column(alloc, col, blocks);
+        let before = self.table.replace_column(alloc, col, blocks);
+        keep_bytes(&mut self.spare, col, before);
         Ok(())
     }
 }
@@ -182,6 +257,32 @@ impl ColumnarTable {
             self.table.placement.clone()?,
             rows,
         )
+    }
+}
+
+/// Returns so many lists without a byte. Errors: 801 if memory is refused.
+fn no_bytes(alloc: Global, count: usize) -> Result<Vec<Vec<u8>>, Fault>
+    ensures { IsOkUnless result no_memory }
+{
+    let mut bytes = Vec::with_capacity(alloc, count)?;
+    for _ in 0..count {
+        bytes.push(Vec::new(alloc))?;
+    }
+    Ok(bytes)
+}
+
+/// Takes the bytes of a number out of a list, if it has them.
+fn take_bytes(alloc: Global, bytes: &mut [Vec<u8>], number: usize) -> Vec<u8> {
+    match bytes.get_mut(number) {
+        Some(kept) => replace(kept, Vec::new(alloc)),
+        None => Vec::new(alloc),
+    }
+}
+
+/// Puts bytes in their place in a list, if it has one.
+fn keep_bytes(bytes: &mut [Vec<u8>], number: usize, more: Vec<u8>) {
+    if let Some(kept) = bytes.get_mut(number) {
+        *kept = more;
     }
 }
 

@@ -12,7 +12,6 @@ use Rattle.bw_model.specs.declared.fault.Fault.{Fault}
 use Rattle.bw_model.specs.declared.query.Query.{Query}
 use Rattle.bw_model.specs.declared.schema.Schema.{Schema}
 use Rattle.bw_model.specs.CondTree.{tree_of}
-use Rattle.bw_model.specs.Groups.{groups_of}
 use Rattle.bw_model.specs.Row.{Value}
 use Rattle.bw_program.specs.Program.{ProgramShape}
 use Rattle.bw_cert_text.specs.CertificateShape.{CertificateShape}
@@ -98,11 +97,11 @@ pub is_for_too : (columns : List Column) (cond same : Cond) → tree_of cond ≡
 is_for_too columns cond same tree (Program certified) is = (is.0, is.1 ∙ tree)
 is_for_too columns cond same tree Rows is = is
 
--- what is reported of a scan over the groups of a table's rows
-pub serves_among : (files : List (List ℕ)) (schema : Schema) (query : Query) (rows : List (List Value)) (scan : Scan) (scanned : Scanned)
-    → IsChosenAmong files schema.columns.items query.cond scan → IsScanOf schema.columns.items scan (groups_of rows) scanned
-    → IsServedAmong files schema query rows (report_of scan scanned)
-serves_among files schema query rows scan scanned chosen counts = (chosen.0, chosen.1, serves chosen.0 schema query rows scan scanned chosen.2 counts)
+-- what is reported of a scan over groups of rows
+pub serves_among : (files : List (List ℕ)) (schema : Schema) (query : Query) (groups : List (List (List Value))) (scan : Scan) (scanned : Scanned)
+    → IsChosenAmong files schema.columns.items query.cond scan → IsScanOf schema.columns.items scan groups scanned
+    → IsServedAmong files schema query groups (report_of scan scanned)
+serves_among files schema query groups scan scanned chosen counts = (chosen.0, chosen.1, serves chosen.0 schema query groups scan scanned chosen.2 counts)
 
 -- a file's program is used, after files that are rejected
 pub chosen_first : (files : List (List ℕ)) (number : ℕ) (file : List ℕ) (columns : List Column) (cond : Cond) (scan : Scan) → slice_get files number ≡ Some file

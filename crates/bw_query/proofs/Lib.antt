@@ -6,6 +6,7 @@ pub mod MemoryExits
 pub mod NamingLemmas
 pub mod PartLemmas
 pub mod ScanLemmas
+pub mod SettledLemmas
 pub mod StoreLemmas
 pub mod TableExits
 pub mod TableLemmas

@@ -32,28 +32,28 @@ no_skips : (columns : List Column) (groups : List (List (List Value))) → sum_b
 no_skips columns [] = refl
 no_skips columns (group ∷ groups) = no_skips columns groups
 
--- what is reported of a scan over the groups of a table's rows
+-- what is reported of a scan over groups of rows
 abbrev pub served : Option (List ℕ) → Scan → Scanned → Schema → Query → List (List Value) → Type 0
-served file scan scanned schema query rows = IsServed file schema query rows (report_of scan scanned)
+served file scan scanned schema query rows = IsServed file schema query (groups_of rows) (report_of scan scanned)
 
-pub serves : (file : Option (List ℕ)) (schema : Schema) (query : Query) (rows : List (List Value)) (scan : Scan) (scanned : Scanned)
-    → IsChosen file schema.columns.items query.cond scan → IsScanOf schema.columns.items scan (groups_of rows) scanned
-    → IsServed file schema query rows (report_of scan scanned)
-serves (Some file) schema query rows (Program certified) scanned chosen counts = record {
+pub serves : (file : Option (List ℕ)) (schema : Schema) (query : Query) (groups : List (List (List Value))) (scan : Scan) (scanned : Scanned)
+    → IsChosen file schema.columns.items query.cond scan → IsScanOf schema.columns.items scan groups scanned
+    → IsServed file schema query groups (report_of scan scanned)
+serves (Some file) schema query groups (Program certified) scanned chosen counts = record {
   segments = counts.segments;
   how = (certified.program, chosen.0, chosen.1, record { by = refl; loads = counts.loads; skips = counts.skips });
 }
-serves (Some file) schema query rows Rows scanned chosen counts = absurd chosen
-serves None schema query rows (Program certified) scanned chosen counts = record {
+serves (Some file) schema query groups Rows scanned chosen counts = absurd chosen
+serves None schema query groups (Program certified) scanned chosen counts = record {
   segments = counts.segments;
   how = inl (certified.program, chosen.0, chosen.1, record { by = refl; loads = counts.loads; skips = counts.skips });
 }
-serves None schema query rows Rows scanned chosen counts = record {
+serves None schema query groups Rows scanned chosen counts = record {
   segments = counts.segments;
   how = inr (record {
     by = refl;
-    loads = counts.loads ∙ no_loads schema.columns.items (groups_of rows);
-    skips = counts.skips ∙ no_skips schema.columns.items (groups_of rows);
+    loads = counts.loads ∙ no_loads schema.columns.items groups;
+    skips = counts.skips ∙ no_skips schema.columns.items groups;
   });
 }
 

@@ -42,11 +42,12 @@ IsChosenAmong files columns cond scan =
     (file : Option (List ℕ)) × IsFirstUsable files columns cond file
     × IsChosen file columns cond scan
 
--- the query is served by the program that is so chosen
-abbrev pub IsServedAmong : List (List ℕ) → Schema → Query → List (List Value) → Served → Type 0
-IsServedAmong files schema query rows served = (file : Option (List ℕ))
+-- the query is served over groups of rows by the program that is so chosen
+abbrev pub IsServedAmong : List (List ℕ) → Schema → Query → List (List (List Value)) → Served
+    → Type 0
+IsServedAmong files schema query groups served = (file : Option (List ℕ))
     × IsFirstUsable files schema.columns.items query.cond file
-    × IsServed file schema query rows served
+    × IsServed file schema query groups served
 
 -- what a program file yields for a condition: its program, if it's accepted
 abbrev pub IsYield : List ℕ → List Column → Cond → Option Certified → Type 0

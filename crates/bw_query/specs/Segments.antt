@@ -1,6 +1,7 @@
 -- The segments of a table, in order, and what consumes them.
-use Rattle.std.specs.Prelude.{◌≡◌, ◌≤◌, ◌+◌, ◌-◌, ◌^◌, ◌<◌, ◌++◌, ◌∷◌, None, ℕ, List, [], length}
-use Rattle.std.specs.List.{sum_by}
+use Rattle.std.specs.Prelude.{◌≡◌, ◌≤◌, ◌+◌, ◌-◌, ◌^◌, ◌<◌, ◌++◌, ◌∷◌, None, ℕ, Bool}
+use Rattle.std.specs.Prelude.{List, [], length, if◌then◌else◌}
+use Rattle.std.specs.List.{flat_map, range_with_len, sum_by}
 use Rattle.bw_model.specs.declared.column.Column.{Column}
 use Rattle.bw_model.specs.declared.fault.Fault.{Fault}
 use Rattle.bw_model.specs.declared.query.Query.{Query}
@@ -12,7 +13,8 @@ use Rattle.bw_file.specs.Reading.{State}
 use Rattle.bw_file.specs.TableReader.{AnswersFault, ReadProgress, ReadWhole, SameTable}
 use Rattle.bw_file.specs.TableReader.{found_so_far, final_result}
 use Rattle.bw_file.specs.declared.table_reader.TableReader.{TableReader}
-use Rattle.bw_memory.specs.MemoryTable.{schema_of}
+use Rattle.bw_memory.specs.MemoryTable.{meaning_numbered, schema_of}
+use Rattle.bw_memory.specs.Settled.{is_settled}
 use Rattle.bw_memory.specs.StoredSegments.{stored_groups}
 use Rattle.bw_memory.specs.declared.table.MemoryTable.{MemoryTable}
 use Rattle.bw_query.specs.declared.scan.Scan.{Scan}
@@ -90,3 +92,12 @@ HasFailed old reader now fault = (start : State) → ReadProgress start old read
 abbrev pub groups_before : MemoryTable → ℕ → List (List (List Value))
 groups_before table number = stored_groups table.layout (schema_of table).columns.items table.rows
     number table.columns.items
+
+-- the rows of a segment of a table in memory, unless it is settled
+abbrev pub open_group : MemoryTable → List Bool → ℕ → List (List (List Value))
+open_group table settled number = if is_settled settled number then []
+    else (meaning_numbered table number).rows ∷ []
+
+-- the groups of rows of the first segments, this many, without those that are settled
+unfoldable pub open_groups : MemoryTable → List Bool → ℕ → List (List (List Value))
+open_groups table settled count = flat_map (open_group table settled) (range_with_len 0 count)

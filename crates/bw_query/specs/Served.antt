@@ -1,11 +1,10 @@
--- How a query over a table's rows is served: its scan statistics.
-use Rattle.std.specs.Prelude.{◌≡◌, ◌⊎◌, ℕ, List, Option, Some, None}
+-- How a query over groups of a table's rows is served: its scan statistics.
+use Rattle.std.specs.Prelude.{◌≡◌, ◌⊎◌, ℕ, List, Option, Some, None, length}
 use Rattle.std.specs.List.{sum_by}
 use Rattle.bw_model.specs.declared.column.Column.{Column}
 use Rattle.bw_model.specs.declared.cond.Cond.{Cond}
 use Rattle.bw_model.specs.declared.query.Query.{Query}
 use Rattle.bw_model.specs.declared.schema.Schema.{Schema}
-use Rattle.bw_model.specs.Groups.{groups_of}
 use Rattle.bw_model.specs.Row.{Value}
 use Rattle.bw_program.specs.Program.{ProgramShape}
 use Rattle.bw_cert_text.specs.CertificateShape.{CertificateShape}
@@ -17,17 +16,13 @@ use Rattle.bw_report.specs.declared.served.By.{By}
 use Rattle.bw_report.specs.declared.served.Served.{Served}
 use Rattle.bw_query.specs.declared.served.Scanned.{Scanned}
 use Rattle.bw_query.specs.Scan.{run_over}
-use Rattle.bw_query.specs.TableAnswer.{group_count}
 
--- by a program: the loads and skips are the sums of the machine's counts over the groups of the
--- rows
-pub record ByProgram (program : ProgramShape) (columns : List Column) (rows : List (List Value))
-    (served : Served) : Type 0 where
+-- by a program: the loads and skips are the sums of the machine's counts over the groups
+pub record ByProgram (program : ProgramShape) (columns : List Column)
+    (groups : List (List (List Value))) (served : Served) : Type 0 where
   pub by : served.by ≡ By.Program
-  pub loads : served.loads ≡ sum_by (λ group. (run_over program columns group).loads)
-      (groups_of rows)
-  pub skips : served.skips ≡ sum_by (λ group. (run_over program columns group).skips)
-      (groups_of rows)
+  pub loads : served.loads ≡ sum_by (λ group. (run_over program columns group).loads) groups
+  pub skips : served.skips ≡ sum_by (λ group. (run_over program columns group).skips) groups
 
 -- by the fallback: no load and no skip
 pub record ByRows (served : Served) : Type 0 where
@@ -37,23 +32,23 @@ pub record ByRows (served : Served) : Type 0 where
 
 -- With a program file: by its program, whose certificate is valid for the condition. Else by some
 -- program that with some certificate is valid, or by the fallback.
-abbrev pub IsServedBy : Option (List ℕ) → List Column → Cond → List (List Value) → Served → Type 0
-IsServedBy (Some file) columns cond rows served =
+abbrev pub IsServedBy : Option (List ℕ) → List Column → Cond → List (List (List Value)) → Served
+    → Type 0
+IsServedBy (Some file) columns cond groups served =
     (program : ProgramShape) × (certificate : CertificateShape)
     × Certifies columns cond file program certificate
-    × ByProgram program columns rows served
-IsServedBy None columns cond rows served =
+    × ByProgram program columns groups served
+IsServedBy None columns cond groups served =
     ((program : ProgramShape) × (certificate : CertificateShape)
     × Valid columns cond program certificate
-    × ByProgram program columns rows served)
+    × ByProgram program columns groups served)
     ⊎ ByRows served
 
--- the scan statistics of a query over the groups of a table's rows
+-- the scan statistics of a query over groups of rows, each a segment
 pub record IsServed (file : Option (List ℕ)) (schema : Schema) (query : Query)
-    (rows : List (List Value))
-    (served : Served) : Type 0 where
-  pub segments : served.segments ≡ group_count rows
-  pub how : IsServedBy file schema.columns.items query.cond rows served
+    (groups : List (List (List Value))) (served : Served) : Type 0 where
+  pub segments : served.segments ≡ length groups
+  pub how : IsServedBy file schema.columns.items query.cond groups served
 
 -- what selects the rows of a scan
 abbrev pub finder_of : Scan → By

@@ -1,15 +1,18 @@
 -- The expected result of a query over a table whose columns are read when they are needed.
-use Rattle.std.specs.Prelude.{◌≡◌, ◌⊎◌, ℕ, false, List, Option, Result, Ok, Err}
+use Rattle.std.specs.Prelude.{◌≡◌, ◌⊎◌, ◌+◌, ◌∷◌, [], ℕ, false, List, Option, Result, Ok, Err}
+use Rattle.bw_model.specs.declared.cond.Cond.{Cond}
 use Rattle.bw_model.specs.declared.fault.Fault.{Fault}
 use Rattle.bw_model.specs.declared.query.Query.{Query}
 use Rattle.bw_model.specs.declared.schema.Schema.{Schema}
 use Rattle.bw_model.specs.Fault.{is_memory}
+use Rattle.bw_model.specs.Groups.{groups_of}
 use Rattle.bw_model.specs.Row.{Value}
-use Rattle.bw_memory.specs.ColumnStore.{ColumnSource, HasFirstFault, HasRows}
-use Rattle.bw_report.specs.declared.served.Served.{Served}
+use Rattle.bw_model.specs.Selection.{matching_rows}
+use Rattle.bw_memory.specs.ColumnStore.{ColumnSource, HasFirstFault, HasRows, in_file, in_memory}
 use Rattle.bw_query.specs.MemoryAnswer.{AnswersRows, RowsText}
 use Rattle.bw_query.specs.NamedColumns.{is_named_by}
 use Rattle.bw_query.specs.ProgramChoice.{IsServedAmong}
+use Rattle.bw_query.specs.declared.served.StoreServed.{StoreServed}
 
 -- the text is that of the query's meaning over rows that have the columns which the query names
 pub record StoreText (asks : Schema → Result Query Fault → Type 0) (schema : Schema)
@@ -33,12 +36,36 @@ IsStoreAnswer asks schema source (Ok text) = StoreText asks schema source text
 IsStoreAnswer asks schema source (Err fault) = is_memory fault ≡ false
     → asks schema (Err fault) ⊎ HasColumnError asks schema source fault
 
--- A sink consumed the text of the query's meaning over such rows. It was served by the program that
--- is chosen among program files.
+-- The groups of rows that are left of some groups without settled ones, this many. The condition is
+-- TRUE on no row of a settled group.
+pub data IsRest (cond : Cond) : List (List (List Value)) → List (List (List Value)) → ℕ
+    → Type 0 where
+  nothing : IsRest cond [] [] 0
+  keeps : {groups rest : List (List (List Value))} {count : ℕ} (group : List (List Value))
+      → IsRest cond groups rest count → IsRest cond (group ∷ groups) (group ∷ rest) count
+  omits : {groups rest : List (List (List Value))} {count : ℕ} (group : List (List Value))
+      → matching_rows cond group ≡ [] → IsRest cond groups rest count
+      → IsRest cond (group ∷ groups) rest (count + 1)
+
+-- no segment of a table in memory is settled
+abbrev pub SettlesOf : ColumnSource → ℕ → Type 0
+SettlesOf (in_memory whole) count = count ≡ 0
+SettlesOf (in_file known header) count = Unit {0}
+
+-- A query over rows was served by the program that is chosen among program files, over the rows'
+-- groups without settled ones.
+pub record IsServedFrom (source : ColumnSource) (files : List (List ℕ)) (schema : Schema)
+    (query : Query) (rows : List (List Value)) (how : StoreServed) : Type 0 where
+  pub rest : List (List (List Value))
+  pub settled : IsRest query.cond (groups_of rows) rest how.settled
+  pub from : SettlesOf source how.settled
+  pub serves : IsServedAmong files schema query rest how.served
+
+-- a sink consumed the text of the query's meaning over such rows, and it was served so
 pub record AnswersStore (asks : Schema → Result Query Fault → Type 0) (schema : Schema)
-    (source : ColumnSource) (files : List (List ℕ)) (old new : Option (List ℕ)) (served : Served)
-    : Type 0 where
+    (source : ColumnSource) (files : List (List ℕ)) (old new : Option (List ℕ))
+    (how : StoreServed) : Type 0 where
   pub rows : List (List Value)
   pub found : AnswersRows asks schema rows old new
   pub have : HasRows source (is_named_by found.query) rows
-  pub serves : IsServedAmong files schema found.query rows served
+  pub serves : IsServedFrom source files schema found.query rows how

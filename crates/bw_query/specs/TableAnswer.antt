@@ -10,7 +10,6 @@ use Rattle.bw_model.specs.declared.schema.Schema.{Schema}
 use Rattle.bw_model.specs.Fault.{is_memory}
 use Rattle.bw_model.specs.Column.{names_of}
 use Rattle.bw_model.specs.Cond.{is_match}
-use Rattle.bw_model.specs.Groups.{groups_of}
 use Rattle.bw_model.specs.Row.{Value}
 use Rattle.bw_model.specs.SchemaText.{schema_shape}
 use Rattle.bw_sql.specs.Statement.{IsReadAs}
@@ -67,10 +66,6 @@ pub record AnswersFile (asks : Schema → Result Query Fault → Type 0) (bytes 
   pub file : IsFileBytes bytes layout schema rows
   pub asked : asks schema (Ok query)
   pub text : Appends old new (csv_text (meaning (names_of schema.columns.items) query rows))
-
--- the number of groups of a table's rows
-abbrev pub group_count : List (List Value) → ℕ
-group_count rows = length (groups_of rows)
 
 -- only the header was read, and the query was rejected, or memory ran out
 pub record HasRejectedQuery (asks : Schema → Result Query Fault → Type 0) (start now : State)

@@ -4,6 +4,7 @@ ghost use Rattle.std.specs.Prelude.{IfOk, IfErr, IsTrue, OnOk, length, not, vec_
 ghost use Rattle.std.specs.List.{list_all};
 ghost use Rattle.std.specs.Io.KnownBytes.{Appends};
 ghost use Rattle.bw_model.specs.declared.fault.Fault.{Fault};
+ghost use Rattle.bw_model.specs.Groups.{groups_of};
 ghost use Rattle.bw_model.specs.Total.{item_within};
 ghost use Rattle.bw_sql.specs.Items.{AreOfOneKind};
 ghost use Rattle.bw_io.specs.Sink.{WriteOutcome, is_write_fault, none_aside};
@@ -39,8 +40,8 @@ use std::alloc::Global;
 /// Errors, in this order: the file header's (301 to 305, 310), then 305 or 309 by the file's length;
 /// the statement's (401 to 408); the program file's (508, 501 to 507, 605, 601 to 604 and 606 to
 /// 610); those of the columns that are read, in the schema's order, each completely (306 to 308); the
-/// sink's (702). 701 if a read fails or the file has changed since it was opened, and 801 at any
-/// time, if memory is refused. Nothing is written before the last column was validated, and the file
+/// sink's (702). 701 if a read fails, or the file has changed since it was opened and no column has an
+/// error, and 801 at any time, if memory is refused. Nothing is written before the last column was validated, and the file
 /// was found unchanged. In memory are some segments of the columns that are read, or all of them once
 /// one has an error, and the result's text. Each device's count of failures must be less than
 /// 2^64 - 1.
@@ -62,7 +63,7 @@ pub fn answer_by_columns<D: RandomAccess, K: Sink>(
         (given_file program.entry) (D.state device.old).known text)
         × Appends (K.state sink.old).taken (K.state sink.new).taken text
         × IsServed (given_file program.entry) (schema_of (table_in found.columnar)) found.query
-        (rows_of (table_in found.columnar)) served) }
+        (groups_of (rows_of (table_in found.columnar))) served) }
 
     // A result is written only after the file was found unchanged since its last read.
     ensures confirmed { IfOk result (λ _. (D.state device.new).confirmed ≡ true) }

@@ -33,4 +33,5 @@ mod trial;
 pub use columnar_calls::{answer_by_columns, dump_by_columns};
 pub use memory_calls::{answer_in_memory, answer_with_programs};
 pub use program_cache::{ProgramCache, RejectedFile};
+pub use served::StoreServed;
 pub use table_calls::{answer, dump};

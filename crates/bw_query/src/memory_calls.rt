@@ -4,6 +4,7 @@ ghost use Rattle.std.specs.Prelude.{IfOk, IfErr, false, true};
 ghost use Rattle.bw_model.specs.declared.fault.Fault.{Fault};
 ghost use Rattle.bw_model.specs.declared.query.Query.{Query};
 ghost use Rattle.bw_model.specs.Fault.{is_memory};
+ghost use Rattle.bw_model.specs.Groups.{groups_of};
 ghost use Rattle.bw_io.specs.Sink.{WriteOutcome, is_write_fault, none_aside};
 ghost use Rattle.bw_io.specs.Source.{is_read_fault};
 ghost use Rattle.bw_memory.specs.MemoryTable.{rows_of, schema_of};
@@ -15,10 +16,10 @@ ghost use Rattle.bw_query.specs.Served.{IsServed};
 ghost use Rattle.bw_query.specs.StoreAnswer.{AnswersStore, HasColumnError, IsStoreAnswer};
 ghost use Rattle.bw_query.specs.TableAnswer.{by_statement};
 
-use crate::memory_segments::memory_text;
+use crate::memory_segments::{memory_text, open_text};
 use crate::program_cache::ProgramCache;
-use crate::served::report_of;
-use crate::stored_columns::read_named;
+use crate::served::{StoreServed, report_of};
+use crate::stored_columns::{read_named, settle_named};
 use crate::table_calls::prepare;
 use bw_io::{Sink, write_whole};
 use bw_memory::{ColumnStore, MemoryTable};
@@ -52,7 +53,7 @@ pub fn answer_in_memory<K: Sink>(
         (found : AnswersRows (by_statement (given_file program.entry) sql.now)
         (schema_of table.now) (rows_of table.now) (K.state sink.old).taken
         (K.state sink.new).taken) × IsServed (given_file program.entry) (schema_of table.now)
-        found.query (rows_of table.now) served) }
+        found.query (groups_of (rows_of table.now)) served) }
 
     // If the statement spells a query, and the program file is accepted for its condition, only the
     // sink or memory can fail.
@@ -70,7 +71,9 @@ pub fn answer_in_memory<K: Sink>(
 /// statements. The columns that the statement names are read first, unless they are in memory. The
 /// rows are found by the scan that is kept for the statement's condition. If none is, one is looked
 /// for and kept: the program of the first program file that is accepted for the condition; else the
-/// planner's, if it proposes one that the checker accepts; else the fallback.
+/// planner's, if it proposes one that the checker accepts; else the fallback. Segments are passed
+/// over if the ranges of their values settle that the condition is TRUE on none of their rows.
+/// Returns how the query was served, and how many segments were passed over.
 ///
 /// Errors, in this order: the statement's (401 to 408), those of the columns (306 to 308, 305, 701)
 /// and the sink's (702); 801 at any time, if memory is refused. A program file that isn't accepted is
@@ -82,7 +85,7 @@ pub fn answer_with_programs<C: ColumnStore, K: Sink>(
     sql: &[u8],
     programs: &mut ProgramCache,
     sink: &mut K,
-) -> Result<Served, Fault>
+) -> Result<StoreServed, Fault>
     requires serves { Serves (schema_of (C.table store.old)).columns.items programs.old }
     requires sink { (K.state sink.old).failures < 2 ^ 64 - 1 }
     ensures answer { (given : Result (List ℕ) Fault)
@@ -117,8 +120,12 @@ pub fn answer_with_programs<C: ColumnStore, K: Sink>(
     let query = parse(alloc, store.table().schema(), sql)?;
     read_named(alloc, store, &query)?;
     let number = programs.find_or_add(alloc, store.table(), &query.cond)?;
+    let settled = settle_named(alloc, store, &query.cond)?;
     let scan = programs.scan(number);
-    let found = memory_text(alloc, store.table(), &query, scan)?;
+    let found = open_text(alloc, store.table(), &settled, &query, scan)?;
     write_whole(sink, &found.text)?;
-    Ok(report_of(scan, found.scanned))
+    Ok(StoreServed {
+        served: report_of(scan, found.scanned),
+        settled: store.table().segments() - found.scanned.segments,
+    })
 }

@@ -68,7 +68,7 @@ fn item_names(item: Item, column: usize) -> bool
 /// Returns whether a condition names a column.
 #[tactic(auto, using(crate::proofs::NamingLemmas::names))]
 #[cycle(cond_names)]
-fn cond_names(cond: &Cond, column: usize) -> bool
+pub(crate) fn cond_names(cond: &Cond, column: usize) -> bool
     ensures { result ≡ cond_names column cond.now }
 {
     match cond {

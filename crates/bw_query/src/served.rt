@@ -22,6 +22,15 @@ pub(crate) const NOTHING_SCANNED: Scanned = Scanned {
     skips: 0,
 };
 
+/// How a query over a table was served whose columns are read when they are needed: the scan
+/// statistics over the segments that were scanned, and the number of those that weren't, since the
+/// ranges of their values settle that the condition is TRUE on none of their rows.
+#[derive(Clone, Copy, Debug, PartialEq, Eq)]
+pub struct StoreServed {
+    pub served: Served,
+    pub settled: u32,
+}
+
 /// The text of a result, and what was scanned for it.
 #[derive(Drop)]
 pub(crate) struct TableText {

@@ -10,6 +10,7 @@ ghost use Rattle.bw_model.specs.declared.schema.Schema.{Schema};
 ghost use Rattle.bw_model.specs.Total.{item_within};
 ghost use Rattle.bw_sql.specs.Items.{AreOfOneKind};
 ghost use Rattle.bw_model.specs.Fault.{is_memory, no_memory};
+ghost use Rattle.bw_model.specs.Groups.{groups_of};
 ghost use Rattle.bw_model.specs.Row.{Value};
 ghost use Rattle.bw_model.specs.SchemaText.{schema_shape};
 ghost use Rattle.bw_file.specs.declared.layout.Layout.{Layout};
@@ -63,7 +64,8 @@ pub fn answer<S: Source, K: Sink>(
         × (found : TableText (by_statement (given_file program.entry) sql.now)
         (state_at (S.state table.old) 0) (state_at (S.state table.new) offset) text)
         × Appends (K.state sink.old).taken (K.state sink.new).taken text
-        × IsServed (given_file program.entry) found.schema found.query found.rows served) }
+        × IsServed (given_file program.entry) found.schema found.query (groups_of found.rows)
+        served) }
 
     // If the unread bytes are known, a success shows that they are a table file's, and the result
     // is over its rows. If they are one's, the statement spells a query, and the program file is
@@ -72,7 +74,7 @@ pub fn answer<S: Source, K: Sink>(
         → IfOk result (λ served. (file : AnswersFile
         (by_statement (given_file program.entry) sql.now) bytes (K.state sink.old).taken
         (K.state sink.new).taken) × IsServed (given_file program.entry) file.schema file.query
-        file.rows served) }
+        (groups_of file.rows) served) }
     ensures accepted { (bytes : List ℕ) (layout : Layout) (schema : Schema)
         (rows : List (List Value)) (query : Query) → (S.state table.old).known ≡ Some bytes
         → IsFileBytes bytes layout schema rows → by_statement (given_file program.entry) sql.now

@@ -37,6 +37,11 @@ stats_line served =
     ++ with_count (codes " skips ") served.skips)
     ++ codes "\n"
 
+-- The line of the number of segments that were settled, as `settled 19300 segments`, with its
+-- line end.
+abbrev pub settled_line : ℕ → List ℕ
+settled_line segments = with_count (codes "settled ") segments ++ codes " segments\n"
+
 -- The line of an accepted program file, as `accepted: 4 instructions, 1 skips, 6 nodes, 9 chains,
 -- 17 rows`, with its line end.
 abbrev pub accepted_line : Accepted → List ℕ

@@ -3,7 +3,7 @@ ghost use Rattle.std.specs.Prelude.{◌≡◌, ◌+◌, ◌-◌, ◌^◌, ◌<�
 ghost use Rattle.std.specs.Fmt.InlineText.{inline_text};
 ghost use Rattle.bw_model.specs.Fault.{fault_line, place_text};
 ghost use Rattle.bw_report.specs.Lines.{status_of, IsWritten, accepted_line, by_text, stats_line};
-ghost use Rattle.bw_report.specs.Lines.{with_count};
+ghost use Rattle.bw_report.specs.Lines.{settled_line, with_count};
 ghost use Rattle.bw_io.specs.Sink.{GoesOut};
 
 use crate::served::{By, Served};
@@ -124,6 +124,25 @@ pub fn stats_line<K: Sink>(served: &Served, sink: &mut K) -> Result<(), Fault>
     ensures { GoesOut (K.state sink.old) (K.state sink.new) (stats_line served.now) result }
 {
     let line = line_of_served(served);
+    write_whole(sink, line.as_str().as_bytes())
+}
+
+/// Returns the line of the number of segments that were settled, as `settled 19300 segments`,
+/// with its line end.
+fn line_of_settled(segments: u32) -> InlineText<LINE>
+    ensures { inline_text result ≡ settled_line segments }
+{
+    let line = and_count(InlineText::new(), "settled ", u64::from(segments));
+    and_words(line, " segments\n")
+}
+
+/// Writes the line of the number of segments that were settled, as `settled 19300 segments`.
+/// The sink's count of failures must be less than 2^64 - 1. Errors: 702 if a write fails.
+pub fn settled_line<K: Sink>(segments: u32, sink: &mut K) -> Result<(), Fault>
+    requires { (K.state sink.old).failures < 2 ^ 64 - 1 }
+    ensures { GoesOut (K.state sink.old) (K.state sink.new) (settled_line segments) result }
+{
+    let line = line_of_settled(segments);
     write_whole(sink, line.as_str().as_bytes())
 }
 

@@ -12,12 +12,12 @@ use Rattle.bw_model.specs.declared.fault.Fault.{Fault}
 use Rattle.bw_model.specs.declared.schema.Schema.{Schema}
 use Rattle.bw_io.specs.Sink.{SinkState, TookPart, WriteOutcome, beginning, everything}
 use Rattle.bw_io.specs.Sink.{is_write_fault, none_aside, nothing}
-use Rattle.bw_report.specs.declared.served.Served.{Served}
 use Rattle.bw_query.specs.StoreAnswer.{AnswersStore, IsStoreAnswer, StoreText}
 use Rattle.bw_query.specs.StoreAnswer.{HasColumnError}
 use Rattle.bw_query.specs.TableAnswer.{by_statement}
+use Rattle.bw_query.specs.declared.served.StoreServed.{StoreServed}
 use Rattle.bw_sql.specs.Statement.{IsReadAs}
-use Rattle.bw_session.specs.Note.{Hears, Note, answered, rejected}
+use Rattle.bw_session.specs.Note.{Hears, Note, rejected, served_notes}
 use Rattle.bw_session.specs.Reading.{most_stored}
 use Rattle.bw_session.specs.Session.{AnswersOne, AsksNothing, EndsLine, IsOutput, IsTold}
 use Rattle.bw_session.specs.Session.{SessionTable, TookRest, answer, nothing as none, refusal}
@@ -92,19 +92,19 @@ module _ (table : SessionTable) (sql : List ℕ) where
   )
 
   -- an LF follows an answer
-  pub answered_line : (given : Result (List ℕ) Fault) (old mid new : SinkState) (before after : Option (List Note)) (served : Served)
-      (result : Result (Option Fault) Fault) → WriteOutcome none_aside old mid given (Ok served)
-      → AnswersStore (by_statement None sql) table.schema table.source table.files old.taken mid.taken served
-      → Hears before after (answered served ∷ []) → EndsLine mid new None result
+  pub answered_line : (given : Result (List ℕ) Fault) (old mid new : SinkState) (before after : Option (List Note)) (how : StoreServed)
+      (result : Result (Option Fault) Fault) → WriteOutcome none_aside old mid given (Ok how)
+      → AnswersStore (by_statement None sql) table.schema table.source table.files old.taken mid.taken how
+      → Hears before after (served_notes how) → EndsLine mid new None result
       → AnswersOne table sql old new before after result
-  answered_line given old mid new before after served result (everything text gave went count) did hears line =
+  answered_line given old mid new before after how result (everything text gave went count) did hears line =
       line_ends _ _ old mid new before after None result (answer did.found.query did.rows did.found.asked.0 did.have)
-      (told_answer did.found.query did.rows served did.found.asked.0 did.have did.serves) did.found.text count hears line
+      (told_answer did.found.query did.rows how did.found.asked.0 did.have did.serves) did.found.text count hears line
 
   -- a write of an answer failed
   pub answer_failed : (old new : SinkState) (told : Option (List Note)) (given : Result (List ℕ) Fault) (fault : Fault)
       → IsStoreAnswer (by_statement None sql) table.schema table.source given
-      → WriteOutcome {T = Served} none_aside old new given (Err fault) → is_write_fault fault ≡ true
+      → WriteOutcome {T = StoreServed} none_aside old new given (Err fault) → is_write_fault fault ≡ true
       → AnswersOne table sql old new told told (Err fault)
   answer_failed old new told given _ is (beginning text gave part count) write =
       let stored : StoreText (by_statement None sql) table.schema table.source text =
@@ -126,7 +126,7 @@ module _ (table : SessionTable) (sql : List ℕ) where
   pub refused : (given : Result (List ℕ) Fault) (old mid new : SinkState) (before after : Option (List Note)) (fault : Fault)
       (result : Result (Option Fault) Fault) → (AsksNothing sql → ⊥) → length sql ≤ 65537
       → IsStoreAnswer (by_statement None sql) table.schema table.source given
-      → WriteOutcome {T = Served} none_aside old mid given (Err fault) → is_write_fault fault ≡ false
+      → WriteOutcome {T = StoreServed} none_aside old mid given (Err fault) → is_write_fault fault ≡ false
       → Hears before after (rejected sql fault ∷ []) → EndsLine mid new (Some fault) result
       → AnswersOne table sql old new before after result
   refused given old mid new before after _ result asks short is (beginning text gave part count) other hears line =

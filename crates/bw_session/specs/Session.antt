@@ -10,17 +10,16 @@ use Rattle.bw_model.specs.FaultTable.{WRITE_FAILED}
 use Rattle.bw_model.specs.Fault.{is_memory, nowhere}
 use Rattle.bw_model.specs.Row.{Value}
 use Rattle.bw_memory.specs.ColumnStore.{ColumnSource, HasRows}
-use Rattle.bw_report.specs.declared.served.Served.{Served}
 use Rattle.bw_query.specs.NamedColumns.{is_named_by}
-use Rattle.bw_query.specs.ProgramChoice.{IsServedAmong}
-use Rattle.bw_query.specs.StoreAnswer.{HasColumnError}
+use Rattle.bw_query.specs.StoreAnswer.{HasColumnError, IsServedFrom}
+use Rattle.bw_query.specs.declared.served.StoreServed.{StoreServed}
 use Rattle.bw_sql.specs.Cut.{HasNoToken}
 use Rattle.bw_sql.specs.Limits.{longest_statement}
 use Rattle.bw_sql.specs.Statement.{IsReadAs}
 use Rattle.bw_answer.specs.Answer.{csv_text, meaning}
 use Rattle.bw_io.specs.Sink.{SinkState, TookPart, is_write_fault}
 use Rattle.bw_io.specs.Source.{SourceState, failed_reads, is_input_fault, is_read_fault}
-use Rattle.bw_session.specs.Note.{Hears, Note, answered, rejected}
+use Rattle.bw_session.specs.Note.{Hears, Note, rejected, served_notes}
 use Rattle.bw_session.specs.Reading.{most_stored}
 use Rattle.bw_session.specs.Statements.{IsBegun, IsOpen, IsWhole}
 
@@ -64,14 +63,14 @@ pub data IsOutput (table : SessionTable) (sql : List ℕ) : Option Fault → Lis
 
 -- What a session tells its listener of a statement with this error, if there is one: nothing of an
 -- empty one; how a query was served, which is by the first program file that is accepted for its
--- condition, or if none is, by some program with a valid certificate, or by the fallback; the stored
--- bytes of one that is rejected, and its error.
+-- condition, or if none is, by some program with a valid certificate, or by the fallback; then how
+-- many segments were settled, if any were; the stored bytes of one that is rejected, and its error.
 pub data IsTold (table : SessionTable) (sql : List ℕ) : Option Fault → List Note → Type 0 where
   told_nothing : AsksNothing sql → IsTold table sql None []
-  told_answer : (query : Query) (rows : List (List Value)) (served : Served)
+  told_answer : (query : Query) (rows : List (List Value)) (how : StoreServed)
       → IsReadAs table.schema sql (Ok query) → HasRows table.source (is_named_by query) rows
-      → IsServedAmong table.files table.schema query rows served
-      → IsTold table sql None (answered served ∷ [])
+      → IsServedFrom table.source table.files table.schema query rows how
+      → IsTold table sql None (served_notes how)
   told_refusal : (fault : Fault) → IsTold table sql (Some fault)
       (rejected (take most_stored sql) fault ∷ [])
 

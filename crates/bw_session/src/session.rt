@@ -6,7 +6,7 @@ ghost use Rattle.bw_io.specs.Sink.{is_write_fault};
 ghost use Rattle.bw_memory.specs.MemoryTable.{schema_of};
 ghost use Rattle.bw_query.specs.ProgramCache.{Serves, files_of};
 ghost use Rattle.bw_session.specs.Session.{Answers, AnswersOne, AsksNothing, EndsLine, first_of};
-ghost use Rattle.bw_session.specs.Note.{Hears};
+ghost use Rattle.bw_session.specs.Note.{Hears, served_notes};
 ghost use Rattle.bw_session.specs.Session.{NeedsLoss, TellsLoss, session_table};
 
 use crate::listener::Listener;
@@ -14,7 +14,7 @@ use crate::reading::{MAX_LEN, next_statement};
 use bw_io::{Sink, Source, write_whole};
 use bw_memory::ColumnStore;
 use bw_model::{Fault, code};
-use bw_query::{ProgramCache, answer_with_programs};
+use bw_query::{ProgramCache, StoreServed, answer_with_programs};
 use bw_sql::has_no_token;
 use std::alloc::Global;
 
@@ -29,10 +29,10 @@ use std::alloc::Global;
 ///
 /// Each statement is run by [`answer_with_programs`], whose errors (401 to 408, 306 to 308, 305, 701
 /// and 801) don't end the session. The listener is told of each statement that isn't empty: before
-/// its LF is written, how it was served, or its text (the first 65,537 bytes) and its error. The session ends early by a
-/// failed read (701) or write (702), and if there is no memory for a statement's text (801). The
-/// programs must serve the table's columns, and the counts of errors of the source and of the sink
-/// must be able to rise.
+/// its LF is written, how it was served and how many segments were settled, if any were; or its
+/// text (the first 65,537 bytes) and its error. The session ends early by a failed read (701) or
+/// write (702), and if there is no memory for a statement's text (801). The programs must serve the
+/// table's columns, and the counts of errors of the source and of the sink must be able to rise.
 pub fn answer_statements<C: ColumnStore, S: Source, K: Sink, L: Listener>(
     alloc: Global,
     store: &mut C,
@@ -109,7 +109,7 @@ fn answer_one<C: ColumnStore, K: Sink, L: Listener>(
     }
     match answer_with_programs(alloc, store, sql, programs, sink) {
         Ok(served) => {
-            listener.note_answer(&served);
+            note_served(listener, &served);
             end_line(sink, None)
         }
         Err(fault) => {
@@ -119,6 +119,16 @@ fn answer_one<C: ColumnStore, K: Sink, L: Listener>(
             listener.note_refusal(sql, &fault);
             end_line(sink, Some(fault))
         }
+    }
+}
+
+/// Tells the listener how a statement was served.
+fn note_served<L: Listener>(listener: &mut L, how: &StoreServed)
+    ensures { Hears (L.told listener.old) (L.told listener.new) (served_notes how.now) }
+{
+    listener.note_answer(&how.served);
+    if how.settled > 0 {
+        listener.note_settled(how.settled);
     }
 }
 

@@ -12,7 +12,7 @@
 //!
 //! All of these share [`read_limited`], which reads an input up to a limit, [`split_file`], which
 //! returns the parts of a program file, and the lines of an error, of scan statistics and of an
-//! accepted program file ([`report`], [`stats_line`], [`accepted_line`]).
+//! accepted program file ([`report`], [`stats_line`], [`settled_line`], [`accepted_line`]).
 //!
 //! Read `specs/CheckText.antt` and `specs/Plan.antt` first, then `check_call.rt` and
 //! `plan_call.rt`.
@@ -33,11 +33,11 @@ pub use bw_encode::{Dialect, Selection};
 pub use bw_io::{Input, read_limited};
 pub use bw_memory::MemoryTable;
 pub use bw_query::{
-    ProgramCache, RejectedFile, answer, answer_by_columns, answer_in_memory, answer_with_programs,
-    dump, dump_by_columns,
+    ProgramCache, RejectedFile, StoreServed, answer, answer_by_columns, answer_in_memory,
+    answer_with_programs, dump, dump_by_columns,
 };
 pub use bw_recode::{recode, recode_by_columns};
-pub use bw_report::{By, Served, accepted_line, report, stats_line};
+pub use bw_report::{By, Served, accepted_line, report, settled_line, stats_line};
 pub use bw_session::{Listener, answer_statements};
 pub use certify_call::certify_text;
 pub use check_call::check_text;

@@ -1,6 +1,7 @@
 -- Schemas that one text spells have the same columns, and conditions of one tree are checked alike.
 use Rattle.std.proofs.Common.{◌≡◌, ◌∙◌, refl, sym, ap, subst}
 use Rattle.bw_model.specs.CondTree.{tree_of}
+use Rattle.bw_model.specs.Groups.{groups_of}
 use Rattle.bw_model.specs.SchemaText.{IsSchemaText}
 use Rattle.bw_file.specs.TableReading.{Found}
 use Rattle.bw_file.proofs.SpelledFile.{of_one_table}
@@ -30,16 +31,16 @@ returns-clause-each c = λ text sql plan schema query kept spelled is.
     (is, (kept.program, kept.certificate, certified_too schema.columns.items kept.query.cond query.cond plan kept.program kept.certificate valid certified))
 
 pub returns-clause-served : goal.returns-clause-served
-returns-clause-served c = λ text sql plan schema query rows served kept spelled is.
+returns-clause-served c = λ text sql plan schema query groups served kept spelled is.
     let how = is.how in
     let certified = certified_here text sql plan schema kept spelled in
     let one = c.one_verdict.ensures.certified schema.columns.items query.cond kept.query.cond plan how.0 kept.program how.1 kept.certificate how.2 certified in
-    subst (λ (program : ProgramShape). ByProgram program schema.columns.items rows served) one.0 how.3
+    subst (λ (program : ProgramShape). ByProgram program schema.columns.items groups served) one.0 how.3
 
 pub returns-clause-file : goal.returns-clause-file
 returns-clause-file c = λ text sql plan bytes layout schema rows old new served kept table spelled answers is.
     let same = of_one_table bytes layout answers.layout schema answers.schema rows answers.rows table answers.file in
     let rows_same : rows ≡ answers.rows = ap (λ (found : Found). found.rows) same in
     let shape = ap (λ (found : Found). found.schema) same in
-    let by = returns-clause-served c text sql plan answers.schema answers.query answers.rows served kept (subst (IsSchemaText text) shape spelled) is in
+    let by = returns-clause-served c text sql plan answers.schema answers.query (groups_of answers.rows) served kept (subst (IsSchemaText text) shape spelled) is in
     rw (columns_too schema answers.schema shape, rows_same) by

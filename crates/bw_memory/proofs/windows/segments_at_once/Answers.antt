@@ -1,5 +1,5 @@
 -- Each turn adds one more column. At most 64 columns have small blocks.
-use Rattle.std.proofs.Common.{◌≡◌, ◌+◌, ◌*◌, ◌≤◌, ◌∙◌, sym, ap, ap₂, cond, ℕ, arith}
+use Rattle.std.proofs.Common.{◌≡◌, ◌+◌, ◌∙◌, sym, ap, ap₂, cond, ℕ, arith}
 use Rattle.bw_file.specs.Blocks.{block_size}
 use Rattle.bw_memory.specs.Columnar.{is_wanted, table_in}
 use Rattle.bw_memory.specs.MemoryTable.{layout_of, schema_of}

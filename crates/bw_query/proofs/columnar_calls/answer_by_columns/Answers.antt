@@ -2,6 +2,7 @@
 use Rattle.std.proofs.Common.{List, ℕ, Option, Ok, Err, inl, subst, sym, false, ◌≡◌}
 use Rattle.bw_model.proofs.ErrLemmas.{err_passed_on}
 use Rattle.bw_model.specs.declared.schema.Schema.{Schema}
+use Rattle.bw_model.specs.Groups.{groups_of}
 use Rattle.bw_io.specs.Source.{is_input_fault}
 use Rattle.bw_report.specs.declared.served.Served.{Served}
 use Rattle.bw_memory.specs.Columnar.{HasColumns, HasDamage, column_count, table_in}
@@ -85,7 +86,7 @@ returns-clause-served g c =
       found.text.items,
       text_found asks file _ old new prepared.query prepared.scan same c.in_ok-columnar.ensures.opened asked chosen found.text.items found.scanned columns over.is,
       goes.0,
-      serves file (schema_of (table_in new)) prepared.query (rows_of (table_in new)) prepared.scan found.scanned chosen_new counts,
+      serves file (schema_of (table_in new)) prepared.query (groups_of (rows_of (table_in new))) prepared.scan found.scanned chosen_new counts,
     )
 
 pub returns-clause-answer : goal.returns-clause-answer

@@ -3,6 +3,7 @@ use Rattle.std.proofs.Common.{ℕ, List, Ok, Err, ap, refl, subst}
 use Rattle.std.specs.Io.KnownBytes.{Appends}
 use Rattle.bw_model.proofs.ErrLemmas.{err_passed_on}
 use Rattle.bw_model.specs.Fault.{is_memory}
+use Rattle.bw_model.specs.Groups.{groups_of}
 use Rattle.bw_memory.specs.MemoryTable.{rows_of, schema_of}
 use Rattle.bw_report.specs.declared.served.Served.{Served}
 use Rattle.bw_query.specs.Scan.{given_file}
@@ -63,7 +64,7 @@ returns-clause-served g c =
         asked = asked;
         text = subst (λ (text : List ℕ). Appends (g.K.Sink.state c.args.sink.now).taken (g.K.Sink.state c.write_whole.new.sink).taken text) is goes.0;
       },
-      serves file (schema_of table) prepared.query (rows_of table) prepared.scan found.scanned chosen counts,
+      serves file (schema_of table) prepared.query (groups_of (rows_of table)) prepared.scan found.scanned chosen counts,
     )
 
 pub returns-in_err-prepared-clause-accepted : goal.returns-in_err-prepared-clause-accepted

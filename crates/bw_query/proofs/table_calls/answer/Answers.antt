@@ -2,6 +2,7 @@
 use Rattle.std.proofs.Common.{[], Ok, Err, ap}
 use Rattle.bw_model.proofs.ErrLemmas.{err_passed_on}
 use Rattle.bw_model.specs.Fault.{is_memory}
+use Rattle.bw_model.specs.Groups.{groups_of}
 use Rattle.bw_report.specs.declared.served.Served.{Served}
 use Rattle.bw_file.specs.TableReader.{bytes_taken, schema_in}
 use Rattle.bw_query.specs.Scan.{given_file}
@@ -97,7 +98,7 @@ returns-clause-served g c =
     let chosen = rw c.schema.ensures at c.in_ok-prepared.ensures.chosen in
     let goes = rw c.deref.ensures.value at c.in_ok-write_whole.ensures in
     let over = text_over (by_statement file c.args.sql.now) _ _ _ reader prepared.query prepared.scan found.text.items found.scanned (served file prepared.scan found.scanned)
-    (λ rows. serves file (schema_in reader) prepared.query rows prepared.scan found.scanned chosen) asked c.in_ok-reader.ensures.began c.in_ok-found.ensures.text in
+    (λ rows. serves file (schema_in reader) prepared.query (groups_of rows) prepared.scan found.scanned chosen) asked c.in_ok-reader.ensures.began c.in_ok-found.ensures.text in
     rw c.report_of.ensures (bytes_taken c.table_text.new.segments, found.text.items, over.0, goes.0, over.1)
 
 pub returns-clause-file : goal.returns-clause-file
@@ -105,7 +106,7 @@ returns-clause-file g c = λ bytes known.
     let told = returns-clause-served g c in
     let file = given_file c.args.program in
     table_answered (by_statement file c.args.sql.now) _ _ told.1 told.2
-    (λ schema query rows. IsServed file schema query rows c.report_of.result) told.4 bytes known _ _ told.3
+    (λ schema query rows. IsServed file schema query (groups_of rows) c.report_of.result) told.4 bytes known _ _ told.3
 
 pub returns-in_err-reader-clause-accepted : goal.returns-in_err-reader-clause-accepted
 returns-in_err-reader-clause-accepted g c =

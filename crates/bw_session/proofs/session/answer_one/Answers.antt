@@ -32,7 +32,7 @@ returns-in-Ok-clause-answers g c =
     let answer = c.in-Ok.ensures.answer in
     let found = c.in-Ok.ensures.served in
     answered_line _ _ answer.0 _ _ (g.K.Sink.state c.end_line.new.sink) _ _ c.in-Ok.served c.end_line.result answer.2 found
-    c.note_answer.ensures c.end_line.ensures
+    c.note_served.ensures c.end_line.ensures
 
 pub returns-else-is_write_fault-clause-answers : goal.returns-else-is_write_fault-clause-answers
 returns-else-is_write_fault-clause-answers g c =

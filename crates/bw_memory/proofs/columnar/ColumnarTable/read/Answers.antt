@@ -1,5 +1,5 @@
 -- All columns were read, or one has an error.
-use Rattle.std.proofs.Common.{◌∙◌, sym, subst, ℕ, Bool, List, Option, true, inr}
+use Rattle.std.proofs.Common.{subst, ℕ, List, Option, true, inr}
 use Rattle.bw_model.proofs.ErrLemmas.{err_passed_on}
 use Rattle.bw_memory.specs.Columnar.{HasDamage}
 use Rattle.bw_memory.proofs.ReadColumnsLemmas.{opened_same}

@@ -1,48 +1,65 @@
--- The table's next segment, after those before it.
-use Rattle.std.proofs.Common.{◌∙◌, ◌+◌, ◌*◌, ◌<◌, ◌≤◌, ℕ, ap, arith, length, refl, subst, sym}
-use Rattle.bw_model.specs.Groups.{group_size}
+-- The table's next segment that isn't settled, after those before it.
+use Rattle.std.proofs.Common.{◌≡◌, ◌∙◌, ◌+◌, ◌*◌, ◌<◌, ◌≤◌, ap, ap₂, arith, length, refl, subst, sym, Bool, List, Bor}
+use Rattle.bw_model.specs.Groups.{group_size, together}
+use Rattle.bw_memory.specs.declared.table.MemoryTable.{MemoryTable}
 use Rattle.bw_memory.specs.MemoryTable.{meaning_numbered, schema_of, segments_in}
-use Rattle.bw_memory.proofs.StoredSegmentLemmas.{length-rows, room_for}
+use Rattle.bw_memory.proofs.StoredSegmentLemmas.{room_for}
 use Rattle.bw_segment.specs.Meaning.{Meaning}
-use Rattle.bw_query.specs.Segments.{Consumes, groups_before}
-use Rattle.bw_query.proofs.GroupLemmas.{before_more, rows_more, taken_as}
+use Rattle.bw_query.specs.Segments.{Consumes, open_groups}
+use Rattle.bw_query.proofs.GroupLemmas.{taken_as}
+use Rattle.bw_query.proofs.SettledLemmas.{open_after, open_end, open_few, open_rows, open_rows_more, passed_over}
 use Rattle.bw_query.proofs.memory_segments.MemorySegmentsSegmentsUnit.take_next.Goals as goal
-
-pub returns-then-self-segments-clause-ended : goal.returns-then-self-segments-clause-ended
-returns-then-self-segments-clause-ended g c = λ none start from groups gave.
-    gave.1 ∙ ap (λ (number : ℕ). groups_before start.table.now number) (c.if-self-segments.true ∙ c.segments.ensures ∙ ap segments_in gave.0)
 
 pub take-requires-clause-fits : goal.take-requires-clause-fits
 take-requires-clause-fits g c =
-    subst (λ (m : Meaning). g.C.SegmentConsumer.fits c.args.consumer.now m.columns) (sym c.in_ok-segment.ensures.means) c.requires.fits
+    let now = c.advance.new.self in
+    let same = ap (λ (b : Bor MemoryTable). b.now) c.advance.ensures.table in
+    let means = c.in_ok-segment.ensures.means ∙ ap (λ (t : MemoryTable). meaning_numbered t now.next) same in
+    subst (λ (m : Meaning). g.C.SegmentConsumer.fits c.args.consumer.now m.columns) (sym means) c.requires.fits
+
+pub returns-then-self-segments-clause-ended : goal.returns-then-self-segments-clause-ended
+returns-then-self-segments-clause-ended g c = λ none start from groups gave.
+    let self = c.args.self.now in
+    let next = c.advance in
+    let number = next.new.self.next in
+    let same = ap (λ (b : Bor MemoryTable). b.now) next.ensures.table in
+    let passed = passed_over self.table.now self.settled.now self.next number next.ensures.from next.ensures.passed in
+    open_end self.table.now self.settled.now self.next number passed start.table.now start.settled.now groups gave.0 gave.1 gave.2 (c.if-self-segments.true ∙ c.segments.ensures ∙ ap segments_in same)
 
 pub take-requires-clause-capacity : goal.take-requires-clause-capacity
 take-requires-clause-capacity g c =
     let self = c.args.self.now in
     let table = self.table.now in
+    let now = c.advance.new.self in
+    let number = now.next in
+    let same = ap (λ (b : Bor MemoryTable). b.now) c.advance.ensures.table in
     let columns = (schema_of table).columns.items in
-    let there : self.next < table.segments = omega (arith, self.within, c.if-self-segments.false, c.segments.ensures) in
+    let there : number < table.segments = omega (arith, now.within, now.most, c.if-self-segments.false, c.segments.ensures, ap segments_in same) in
     let before = g.C.SegmentConsumer.rows c.args.consumer.now in
-    let few : before ≤ group_size * self.next = omega (arith, c.requires.rows, length-rows table.layout columns table.rows self.next table.columns.items) in
-    let rows = ap (λ (means : Meaning). length means.rows) c.in_ok-segment.ensures.means in
-    omega (arith, rows, table.within_limit, room_for table.layout columns table.rows self.next before table.columns.items (table.kept.nonempty self.next there) few)
+    let few : before ≤ group_size * number = open_few table self.settled.now self.next number before c.requires.rows c.advance.ensures.from in
+    let means = c.in_ok-segment.ensures.means ∙ ap (λ (t : MemoryTable). meaning_numbered t number) same in
+    let rows = ap (λ (m : Meaning). length m.rows) means in
+    omega (arith, rows, table.within_limit, room_for table.layout columns table.rows number before table.columns.items (table.kept.nonempty number there) few)
 
 pub returns-clause-taken : goal.returns-clause-taken
 returns-clause-taken g c = λ came.
     let self = c.args.self.now in
     let table = self.table.now in
-    let consumed = subst (λ (m : Meaning). Consumes m.columns m.rows g.C.SegmentConsumer.fits g.C.SegmentConsumer.rows g.C.SegmentConsumer.over c.args.consumer.now c.take.new.self)
-    c.in_ok-segment.ensures.means c.in_ok-take.ensures.consumes in
-    taken_as _ _ refl (meaning_numbered table self.next).rows _ _ _ _ _ _
-    (rows_more table table self.next (self.next + 1) refl refl, λ start from groups gave. before_more start.table.now table table groups self.next (self.next + 1) gave.0 refl refl gave.1) consumed
-
-pub returns-clause-left : goal.returns-clause-left
-returns-clause-left g c = λ came.
-    let self = c.args.self.now in
-    omega (arith, self.within, c.if-self-segments.false, c.segments.ensures)
+    let settled = self.settled.now in
+    let now = c.advance.new.self in
+    let number = now.next in
+    let same = ap (λ (b : Bor MemoryTable). b.now) c.advance.ensures.table in
+    let marks = ap (λ (b : Bor (List Bool)). b.now) c.advance.ensures.settled in
+    let passed = passed_over table settled self.next number c.advance.ensures.from c.advance.ensures.passed in
+    let is = c.advance.ensures.unsettled (omega (arith, now.within, now.most, c.if-self-segments.false, c.segments.ensures, ap segments_in same)) in
+    let means = c.in_ok-segment.ensures.means ∙ ap (λ (t : MemoryTable). meaning_numbered t number) same in
+    let consumed = subst (λ (m : Meaning). Consumes m.columns m.rows g.C.SegmentConsumer.fits g.C.SegmentConsumer.rows g.C.SegmentConsumer.over c.args.consumer.now c.take.new.self) means c.in_ok-take.ensures.consumes in
+    let rows = ap₂ (λ (t : MemoryTable) (s : List Bool). length (together (open_groups t s (number + 1)))) same marks ∙ open_rows_more table settled self.next number passed is in
+    taken_as _ _ refl (meaning_numbered table number).rows _ _ _ _ _ _
+    (rows, λ start from groups gave. let after = open_after table settled self.next number passed start.table.now start.settled.now groups gave.0 gave.1 gave.2 is in (same ∙ after.0, marks ∙ after.1, after.2)) consumed
 
 pub returns-clause-capacity : goal.returns-clause-capacity
 returns-clause-capacity g c = λ came.
-    let self = c.args.self.now in
-    let table = self.table.now in
-    omega (arith, table.within_limit, length-rows table.layout (schema_of table).columns.items table.rows (self.next + 1) table.columns.items)
+    let now = c.advance.new.self in
+    let table = now.table.now in
+    omega (arith, table.within_limit, (open_rows table now.settled.now (now.next + 1)).1)
