@@ -22,6 +22,7 @@ import instructions  # noqa: E402
 import lengths  # noqa: E402
 import load  # noqa: E402
 import memory  # noqa: E402
+import ranges  # noqa: E402
 import selectivity  # noqa: E402
 import session  # noqa: E402
 import shards  # noqa: E402
@@ -29,8 +30,9 @@ import skips  # noqa: E402
 import start  # noqa: E402
 
 COMMANDS = {"compare": compare, "session": session, "selectivity": selectivity, "cliffs": cliffs,
-            "skips": skips, "load": load, "import": imports, "shards": shards, "ask": ask,
-            "memory": memory, "lengths": lengths, "start": start, "instructions": instructions}
+            "skips": skips, "ranges": ranges, "load": load, "import": imports, "shards": shards,
+            "ask": ask, "memory": memory, "lengths": lengths, "start": start,
+            "instructions": instructions}
 
 
 def parser() -> argparse.ArgumentParser:

@@ -78,8 +78,9 @@ class Answers(Loaded):
                         self.assertEqual(bw("query", "--stats", by_rows, sql),
                                          bw("query", "--stats", by_columns, sql))
                 given = ";\n".join(asked)
-                self.assertEqual(bw("session", "--stats", by_rows, given=given),
-                                 bw("session", "--stats", by_columns, given=given))
+                # but for the counts, which are over the segments that ranges leave
+                self.assertEqual(bw("session", by_rows, given=given),
+                                 bw("session", by_columns, given=given))
 
     def test_the_bytes_are_those_of_the_page(self) -> None:
         for count in (0, 1, 512, 1100):

@@ -22,7 +22,8 @@ STRICT = ["--strict", "--python-version", "3.9", "--ignore-missing-imports", "--
 # what is typed beside the package
 TYPED = [f"tests/{name}.py" for name in ("support", "pages", "drawn", "drawn_numbers", "reference",
                                        "drawn_select", "selects", "drawn_programs",
-                                       "second_checker", "column_files", "wrong_programs")]
+                                       "second_checker", "column_files", "wrong_programs",
+                                       "ranges")]
 TYPED += ["verify/check.py", "verify/answer.py", "scripts/pictures.py", "scripts/wheel",
           "bench/pictures.py"]
 WORD = re.compile(r"[^\s(){}\[\],;.:λ@]+")
