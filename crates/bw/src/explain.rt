@@ -42,6 +42,13 @@ pub fn explain_fallback(rt: &HostRuntime, words: &CommandArgs<'_>) {
     print_lines(rt, "", fallback_of(rt, words));
 }
 
+/// Prints on standard error why segments weren't scanned, below the line that counts them.
+pub fn explain_settled(rt: &HostRuntime) {
+    let said = "the ranges of their values show that none of their rows match, or, if a \
+                program only counts rows, that all do";
+    let _ = eprintln!(rt; "    {}", said);
+}
+
 /// Prints on standard error that the certificate of a program file is ignored, if it has one.
 pub fn explain_ignored(rt: &HostRuntime, path: &str, file: &[u8]) {
     print_lines(rt, path, bw_explain::explain_ignored(rt.alloc(), file).ok());

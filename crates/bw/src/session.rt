@@ -5,7 +5,7 @@ ghost use Rattle.bw_memory.specs.Columns.{IsBlank};
 ghost use Rattle.bw_memory.specs.MemoryTable.{schema_of};
 ghost use Rattle.bw_query.specs.ProgramCache.{Serves};
 
-use crate::explain::explain_statement;
+use crate::explain::{explain_settled, explain_statement};
 use crate::failure::{CommandFailure, or_failure, or_write_failure};
 use crate::file_at::FileAt;
 use crate::in_file::InFile;
@@ -176,7 +176,8 @@ pub struct Teller<'a> {
 
 impl<'a> Teller<'a> {
     /// Returns a reporter that writes the scan statistics of each result if `stats`, and explains
-    /// each error if `explains`. It prompts if input and standard error are a terminal.
+    /// each error, and why segments are settled, if `explains`. It prompts if input and standard
+    /// error are a terminal.
     pub fn new(rt: &'a HostRuntime, schema: &'a Schema, stats: bool, explains: bool) -> Self {
         let prompts = rt.stdin().is_terminal() && rt.stderr().is_terminal();
         Teller {
@@ -211,8 +212,14 @@ impl Listener for Teller<'_> {
     }
 
     fn note_settled(&mut self, segments: u32) {
-        if self.stats && settled_line(segments, &mut ToWrite::new(self.rt.stderr())).is_err() {
+        if !self.stats {
+            return;
+        }
+        if settled_line(segments, &mut ToWrite::new(self.rt.stderr())).is_err() {
             self.lost = true;
+        }
+        if self.explains {
+            explain_settled(self.rt);
         }
     }
 

@@ -15,3 +15,4 @@ pub mod UndamagedColumnar
 pub mod AppendedBlocks
 pub mod RangeLemmas
 pub mod SettleLemmas
+pub mod KeptRanges

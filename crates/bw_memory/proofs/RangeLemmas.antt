@@ -1,115 +1,124 @@
--- The range of a column's values in some rows, from their totals.
-use Rattle.std.proofs.Common.{◌≡◌, ◌∙◌, inl, inr, refl, sym, ap, subst, ℕ, zero, suc, ◌+◌, ◌-◌, ◌/◌, ◌%◌, ◌<◌, ◌≤◌, get_or, slice_set, IsTrue, ◌||◌, ℤ, pos, ◌≤ℤ◌, Bool, true, false, ◌&&◌, All, List, [], ◌∷◌, ◌++◌, length, replicate, Option, Some, None, arith}
-use Rattle.std.specs.List.{cons_option, list_all, reduce}
-use Rattle.std.specs.Int.{int_max, int_min}
-use Rattle.std.proofs.lemmas.Bool.{and_parts, cases_Bool, cases_eq, cases_lt}
-use Rattle.std.proofs.lemmas.List.{length-append, length-set, get_or-set_other, get_or-set_same, get_or_append_left, get_or_default}
+-- The range of a column's values in some rows, from their codes.
+use Rattle.std.proofs.Common.{◌≡◌, ◌∙◌, inl, inr, refl, sym, ap, ap₂, subst, ℕ, zero, suc, ◌+◌, ◌-◌, ◌*◌, ◌/◌, ◌<◌, ◌≤◌, min, max, get_or, IsTrue, ◌||◌, ℤ, ◌-ℤ◌, unsigned_abs, Bool, true, false, cond, not, ◌&&◌, All, List, [], ◌∷◌, ◌++◌, map, length, replicate, Option, Some, None, unwrap_or, arith}
+use Rattle.std.specs.Prelude.{int_le}
+use Rattle.std.specs.List.{fold, list_all, reduce}
+use Rattle.std.proofs.lemmas.Bool.{and_parts, cases_Bool, cases_lt}
+use Rattle.std.proofs.lemmas.List.{length-append, get_or_append_left}
 use Rattle.std.proofs.Math.Seq.{get_or-append_seam}
-use Rattle.std.proofs.lemmas.Int.{fold-int_max_bounds, fold-int_min_bounds, ints}
 use Rattle.std.proofs.lemmas.List.Elements.{All-cons, All-head, All-tail}
-use Rattle.bw_model.specs.declared.query.Item.{Item}
-use Rattle.bw_model.specs.declared.query.Item.TheVariants.{Count, Max, Min}
+use lib.Lanes.{zip2}
+use Rattle.bw_model.specs.declared.column.Column.{Column}
+use Rattle.bw_model.specs.Code.{code_at}
+use Rattle.bw_model.specs.Column.{admits_value, admits_values}
 use Rattle.bw_model.specs.Row.{Value, value_in}
 use Rattle.bw_model.specs.Selection.{selected_items}
-use Rattle.bw_model.specs.Total.{present, total}
-use Rattle.bw_segment.specs.Meaning.{Meaning}
-use Rattle.bw_rowwise.specs.Accumulator.{Tally, tally_of}
-use Rattle.bw_aggregate.specs.Selected.{selected_rows}
+use Rattle.bw_model.specs.StoredCodes.{stored_at}
+use Rattle.bw_model.specs.Truth.{is_null}
+use Rattle.bw_model.specs.Groups.{group_size}
+use Rattle.bw_segment.specs.Meaning.{IsGroup, Meaning, null_bits, stored_codes}
+use Rattle.bw_segment.specs.Selected.{codes_in}
 use Rattle.bw_ranges.specs.declared.column_range.ColumnRange.{ColumnRange}
 use Rattle.bw_ranges.specs.ColumnRange.{has_value, only_null}
-use Rattle.bw_memory.specs.Ranges.{HasRange}
+use Rattle.bw_memory.specs.declared.table.MemoryTable.{MemoryTable}
+use Rattle.bw_memory.specs.MemoryTable.{meaning_numbered}
+use Rattle.bw_memory.specs.Ranges.{AreRangesOf, HasRange, HasRangeInGroup}
 
 holds : (a b : Bool) → a ≡ true → b ≡ true → (a && b) ≡ true
 holds a b p q = rw (p, q) refl
 
--- the lanes of all rows select all rows
-selected_all : (n m : ℕ) (rows : List (List Value)) → n ≡ length rows → selected_items (replicate n true ++ replicate m false) rows ≡ rows
-selected_all zero zero [] e = refl
-selected_all zero (suc m) [] e = refl
-selected_all zero m (row ∷ rows) e = absurd (omega (arith, e))
-selected_all (suc n) m [] e = absurd (omega (arith, e))
-selected_all (suc n) m (row ∷ rows) e = ap (λ (l : List (List Value)). row ∷ l) (selected_all n m rows (omega (arith, e)))
+-- the bounds of some codes
+min_bounds : (a : ℕ) (codes : List ℕ) → (fold min a codes ≤ a) × All (λ code. fold min a codes ≤ code) codes
+min_bounds a [] = (omega arith, λ k d lt. absurd (omega (arith, lt)))
+min_bounds a (code ∷ codes) =
+    let rest = min_bounds (min a code) codes in
+    (omega (arith, rest.0), All-cons (λ c. fold min (min a code) codes ≤ c) code codes (omega (arith, rest.0)) rest.1)
 
-pub total_of_all : (item : Item) (meaning : Meaning) (old new : Tally) (lanes : List Bool) (n m : ℕ) → old ≡ tally_of item []
-    → ((rows : List (List Value)) → old ≡ tally_of old.item rows → new ≡ tally_of old.item (rows ++ selected_rows meaning lanes))
-    → lanes ≡ replicate n true ++ replicate m false → n ≡ length meaning.rows → new.answer ≡ total item meaning.rows
-total_of_all item meaning old new lanes n m begins step all count =
-    let same : old.item ≡ item = ap (λ (t : Tally). t.item) begins in
-    let whole : selected_rows meaning lanes ≡ meaning.rows = ap (λ (l : List Bool). selected_items l meaning.rows) all ∙ selected_all n m meaning.rows count in
-    ap (λ (t : Tally). t.answer) (step [] (begins ∙ ap (λ (i : Item). tally_of i []) (sym same))) ∙ ap (λ (i : Item). total i (selected_rows meaning lanes)) same ∙ ap (total item) whole
+max_bounds : (a : ℕ) (codes : List ℕ) → (a ≤ fold max a codes) × All (λ code. code ≤ fold max a codes) codes
+max_bounds a [] = (omega arith, λ k d lt. absurd (omega (arith, lt)))
+max_bounds a (code ∷ codes) =
+    let rest = max_bounds (max a code) codes in
+    (omega (arith, rest.0), All-cons (λ c. c ≤ fold max (max a code) codes) code codes (omega (arith, rest.0)) rest.1)
 
-few : (col : ℕ) (rows : List (List Value)) → length (present col rows) ≤ length rows
-few col [] = omega arith
-few col (row ∷ rows) = by (value_in row col) (present col rows) (length rows) (few col rows)
+-- a code from one to another
+abbrev pub IsBetween : ℕ → ℕ → ℕ → Type 0
+IsBetween least greatest code = (least ≤ code) × (code ≤ greatest)
+
+pub codes_between : (codes : List ℕ) (least greatest : ℕ) → Some least ≡ reduce min codes → Some greatest ≡ reduce max codes → All (IsBetween least greatest) codes
+codes_between [] least greatest low high = absurd (cc low)
+codes_between (code ∷ codes) least greatest low high =
+    let from : least ≡ fold min code codes = cc low in
+    let to : greatest ≡ fold max code codes = cc high in
+    let lows = min_bounds code codes in
+    let highs = max_bounds code codes in
+    rw (from, to) (All-cons (IsBetween (fold min code codes) (fold max code codes)) code codes (lows.0, highs.0) (λ k d lt. (lows.1 k d lt, highs.1 k d lt)))
+
+pub no_codes : (codes : List ℕ) (P : ℕ → Type 0) → None ≡ reduce min codes → All P codes
+no_codes [] P none = λ k d lt. absurd (omega (arith, lt))
+no_codes (code ∷ codes) P none = absurd (cc none)
+
+-- a column's code of a value that it admits is the one that is stored
+code_stored : (columns : List Column) (values : List Value) (col : ℕ) (n : ℤ) → admits_values columns values ≡ true → col < length columns → value_in values col ≡ Some n
+    → code_at columns col (Some n) ≡ Some (stored_at columns col (Some n))
+code_stored [] values col n admitted lt is = absurd (omega (arith, lt))
+code_stored (c ∷ columns) [] col n admitted lt is = absurd (cc admitted)
+code_stored (c ∷ columns) (value ∷ values) zero n admitted lt is =
+    let admits : admits_value c (Some n) ≡ true = ap (admits_value c) (sym is) ∙ (and_parts (admits_value c value) (admits_values columns values) admitted).0 in
+    given (int_le c.lo n && int_le n c.hi) (unsigned_abs (n -ℤ c.lo)) admits
   where
-    by : (v : Value) (rest : List ℤ) (count : ℕ) → length rest ≤ count → length (cons_option v rest) ≤ suc count
-    by None rest count le = omega (arith, le)
-    by (Some n) rest count le = omega (arith, le)
+    given : (b : Bool) (code : ℕ) → b ≡ true → ◌≡◌ {A = Option ℕ} (cond b (Some code) None) (Some (unwrap_or (cond b (Some code) None) 0))
+    given true code e = refl
+    given false code e = absurd (cc e)
+code_stored (c ∷ columns) (value ∷ values) (suc col) n admitted lt is =
+    code_stored columns values col n (and_parts (admits_value c value) (admits_values columns values) admitted).1 (omega (arith, lt)) is
 
-lows : (xs : List ℤ) (least : ℤ) → reduce int_min xs ≡ Some least → All (λ x. least ≤ℤ x) xs
-lows [] least e = absurd (cc e)
-lows (x ∷ xs) least e = let b = fold-int_min_bounds x xs least (cc e) in All-cons (λ x. least ≤ℤ x) x xs b.0 b.1
+-- A range has the values of rows if it has the numbers of all codes of those that aren't null, and null if one is.
+module _ (columns : List Column) (col : ℕ) (there : col < length columns) (range : ColumnRange) (P : ℕ → Type 0)
+    (numbers : (n : ℤ) (code : ℕ) → code_at columns col (Some n) ≡ Some code → P code → has_value range (Some n) ≡ true) where
+  abbrev null_at : List Value → Bool
+  null_at row = is_null (value_in row col)
 
-highs : (xs : List ℤ) (greatest : ℤ) → reduce int_max xs ≡ Some greatest → All (λ x. x ≤ℤ greatest) xs
-highs [] greatest e = absurd (cc e)
-highs (x ∷ xs) greatest e = let b = fold-int_max_bounds x xs greatest (cc e) in All-cons (λ x. x ≤ℤ greatest) x xs b.0 b.1
+  abbrev code_in : List Value → ℕ
+  code_in row = stored_at columns col (value_in row col)
 
-module _ (least greatest : ℤ) (nulls : Bool) where
-  abbrev range : ColumnRange
-  range = record { least = least; greatest = greatest; has_nulls = nulls }
+  -- the codes of the rows that aren't null, in lanes that are padded
+  abbrev picked : List (List Value) → ℕ → ℕ → List Bool → List ℕ → List ℕ
+  picked rows n m nulls codes = selected_items (zip2 (λ x y. x && y) (replicate n true ++ replicate m false) (map not (map null_at rows ++ nulls))) (map code_in rows ++ codes)
 
-  in_range : (n : ℤ) → least ≤ℤ n → n ≤ℤ greatest → has_value range (Some n) ≡ true
-  in_range n low high = grind (arith, ints)
+  one : (row : List Value) (v : Value) → value_in row col ≡ v → admits_values columns row ≡ true → (lanes : List Bool) (codes : List ℕ) (more : Bool)
+      → All P (selected_items ((true && not (is_null v)) ∷ lanes) (stored_at columns col v ∷ codes)) → (range.has_nulls ≡ false → (not (is_null v) && more) ≡ true)
+      → (has_value range v ≡ true) × All P (selected_items lanes codes) × (range.has_nulls ≡ false → more ≡ true)
+  one row None is admitted lanes codes more all none = (
+    elim (cases_Bool range.has_nulls) [
+      | inl nulls ↦ nulls
+      | inr un ↦ let bad : false ≡ true = none un in absurd (cc bad)
+    ],
+    all,
+    λ un. let bad : false ≡ true = none un in absurd (cc bad),
+  )
+  one row (Some n) is admitted lanes codes more all none = (
+    numbers n (stored_at columns col (Some n)) (code_stored columns row col n admitted there is) (All-head P (stored_at columns col (Some n)) (selected_items lanes codes) all),
+    All-tail P (stored_at columns col (Some n)) (selected_items lanes codes) all,
+    none,
+  )
 
-  value_has : (v : Value) (rest : List ℤ) (count : ℕ) → length rest ≤ count → All (λ x. least ≤ℤ x) (cons_option v rest) → All (λ x. x ≤ℤ greatest) (cons_option v rest)
-      → (nulls ≡ false → length (cons_option v rest) ≡ suc count) → has_value range v ≡ true
-  value_has None rest count le low high none = elim (cases_Bool nulls) [
-    | inl is ↦ is
-    | inr un ↦ absurd (omega (arith, le, none un))
-  ]
-  value_has (Some n) rest count le low high none = in_range n (All-head (λ x. least ≤ℤ x) n rest low) (All-head (λ x. x ≤ℤ greatest) n rest high)
+  range_of_picked : (rows : List (List Value)) (n m : ℕ) (nulls : List Bool) (codes : List ℕ) → n ≡ length rows → list_all (admits_values columns) rows ≡ true → All P (picked rows n m nulls codes)
+      → (range.has_nulls ≡ false → list_all not (map null_at rows ++ nulls) ≡ true) → HasRange range col rows
+  range_of_picked [] n m nulls codes count admitted all none = refl
+  range_of_picked (row ∷ rows) zero m nulls codes count admitted all none = absurd (omega (arith, count))
+  range_of_picked (row ∷ rows) (suc n) m nulls codes count admitted all none =
+      let parts = and_parts (admits_values columns row) (list_all (admits_values columns) rows) admitted in
+      let first = one row (value_in row col) refl parts.0 (zip2 (λ x y. x && y) (replicate n true ++ replicate m false) (map not (map null_at rows ++ nulls))) (map code_in rows ++ codes) (list_all not (map null_at rows ++ nulls)) all none in
+      holds (has_value range (value_in row col)) (list_all (λ row. has_value range (value_in row col)) rows) first.0 (range_of_picked rows n m nulls codes (omega (arith, count)) parts.1 first.1 first.2)
 
-  rest_all : (P : ℤ → Type 0) (v : Value) (rest : List ℤ) → All P (cons_option v rest) → All P rest
-  rest_all P None rest all = all
-  rest_all P (Some n) rest all = All-tail P n rest all
-
-  rest_none : (v : Value) (rest : List ℤ) (count : ℕ) → length rest ≤ count → (nulls ≡ false → length (cons_option v rest) ≡ suc count) → nulls ≡ false → length rest ≡ count
-  rest_none None rest count le none un = absurd (omega (arith, le, none un))
-  rest_none (Some n) rest count le none un = omega (arith, none un)
-
-  rows_have : (col : ℕ) (rows : List (List Value)) → All (λ x. least ≤ℤ x) (present col rows) → All (λ x. x ≤ℤ greatest) (present col rows)
-      → (nulls ≡ false → length (present col rows) ≡ length rows) → HasRange range col rows
-  rows_have col [] low high none = refl
-  rows_have col (row ∷ rows) low high none =
-      let v = value_in row col in
-      let rest = present col rows in
-      holds (has_value range v) (list_all (λ row. has_value range (value_in row col)) rows) (value_has v rest (length rows) (few col rows) low high none)
-      (rows_have col rows (rest_all (λ x. least ≤ℤ x) v rest low) (rest_all (λ x. x ≤ℤ greatest) v rest high) (rest_none v rest (length rows) (few col rows) none))
-
-  pub range_of_totals : (col : ℕ) (rows : List (List Value)) → total (Min col) rows ≡ Some least → total (Max col) rows ≡ Some greatest
-      → (nulls ≡ false → total (Count col) rows ≡ Some (pos (length rows))) → HasRange range col rows
-  range_of_totals col rows low high none = rows_have col rows (lows (present col rows) least low) (highs (present col rows) greatest high) (λ un. same (length (present col rows)) (length rows) (none un))
-    where
-      same : (a b : ℕ) → ◌≡◌ {A = Option ℤ} (Some (pos a)) (Some (pos b)) → a ≡ b
-      same a b e = cc e
-
--- rows without a value are all null
-none_left : (xs : List ℤ) → reduce int_min xs ≡ None → xs ≡ []
-none_left [] e = refl
-none_left (x ∷ xs) e = absurd (cc e)
-
-all_null : (col : ℕ) (rows : List (List Value)) → present col rows ≡ [] → HasRange only_null col rows
-all_null col [] e = refl
-all_null col (row ∷ rows) e =
-    let p = by (value_in row col) (present col rows) e in
-    holds (has_value only_null (value_in row col)) (list_all (λ row. has_value only_null (value_in row col)) rows) p.0 (all_null col rows p.1)
-  where
-    by : (v : Value) (rest : List ℤ) → cons_option v rest ≡ [] → (has_value only_null v ≡ true) × (rest ≡ [])
-    by None rest e = (refl, e)
-    by (Some n) rest e = absurd (cc e)
-
-pub range_of_nulls : (col : ℕ) (rows : List (List Value)) → total (Min col) rows ≡ None → HasRange only_null col rows
-range_of_nulls col rows e = all_null col rows (none_left (present col rows) e)
+pub range_of_segment : (meaning : Meaning) (col : ℕ) → IsGroup meaning → col < length meaning.columns → (range : ColumnRange) (P : ℕ → Type 0)
+    → ((n : ℤ) (code : ℕ) → code_at meaning.columns col (Some n) ≡ Some code → P code → has_value range (Some n) ≡ true) → (n m : ℕ) → n ≡ length meaning.rows → (all nulls others lanes : List Bool)
+    → all ≡ replicate n true ++ replicate m false → nulls ≡ null_bits meaning.rows col → others ≡ map not nulls → lanes ≡ zip2 (λ x y. x && y) all others
+    → All P (codes_in meaning col lanes) → (range.has_nulls ≡ false → list_all not nulls ≡ true) → HasRange range col meaning.rows
+unfolding null_bits stored_codes codes_in
+range_of_segment meaning col group there range P numbers n m count all nulls others lanes all_is nulls_are others_are lanes_are codes none =
+    let picked : lanes ≡ zip2 (λ x y. x && y) (replicate n true ++ replicate m false) (map not (null_bits meaning.rows col)) = lanes_are ∙ ap₂ (zip2 (λ x y. x && y)) all_is (others_are ∙ ap (map not) nulls_are) in
+    range_of_picked meaning.columns col there range P numbers meaning.rows n m (replicate (group_size - length meaning.rows) false) (replicate (group_size - length meaning.rows) 0) count group.admitted
+    (subst (λ (l : List Bool). All P (codes_in meaning col l)) picked codes) (λ un. ap (list_all not) (sym nulls_are) ∙ none un)
 
 -- a wider range
 wider : (a h : ColumnRange) → ((v : Value) → has_value a v ≡ true → has_value h v ≡ true) → (col : ℕ) (rows : List (List Value)) → HasRange a col rows → HasRange h col rows
@@ -118,53 +127,48 @@ wider a h more col (row ∷ rows) has =
     let parts = and_parts (has_value a (value_in row col)) (list_all (λ row. has_value a (value_in row col)) rows) has in
     holds (has_value h (value_in row col)) (list_all (λ row. has_value h (value_in row col)) rows) (more (value_in row col) parts.0) (wider a h more col rows parts.1)
 
--- one segment more, in a group of its own, or in the last one
-module _ (rows : ℕ → List (List Value)) (col k : ℕ) (xs : List ColumnRange) (r : ColumnRange) (each : length xs ≡ (k + 3) / 4) (before : (n : ℕ) → n < k → HasRange (get_or xs (n / 4) only_null) col (rows n))
-    (here : HasRange r col (rows k)) where
-  group_added : k % 4 ≡ 0 → (n : ℕ) → n < k + 1 → HasRange (get_or (xs ++ r ∷ []) (n / 4) only_null) col (rows n)
-  group_added first n lt = elim (cases_lt n k) [
-    | inl earlier ↦ subst (λ (x : ColumnRange). HasRange x col (rows n)) (sym (get_or_append_left xs (r ∷ []) only_null (n / 4) (omega (arith, earlier, first, each)))) (before n earlier)
-    | inr last ↦
-        let same : k ≡ n = omega (arith, lt) in
-        let end : k / 4 ≡ length xs = omega (arith, first, each) in
-        let is : get_or (xs ++ r ∷ []) (k / 4) only_null ≡ r = ap (λ i. get_or (xs ++ r ∷ []) i only_null) end ∙ get_or-append_seam xs r [] only_null in
-        subst (λ m. HasRange (get_or (xs ++ r ∷ []) (m / 4) only_null) col (rows m)) same (subst (λ (x : ColumnRange). HasRange x col (rows k)) (sym is) here)
-  ]
+or_true : (a b : Bool) → b ≡ true → (a || b) ≡ true
+or_true true b e = refl
+or_true false b e = e
 
-  group_widened : (old h : ColumnRange) (last : ℕ) → last ≡ length xs - 1 → (k % 4 ≡ 0 → ⊥) → old ≡ get_or xs last old → ((v : Value) → IsTrue (has_value r v || has_value old v) → IsTrue (has_value h v))
-      → (n : ℕ) → n < k + 1 → HasRange (get_or (slice_set xs last h) (n / 4) only_null) col (rows n)
-  group_widened old h last place more is wide n lt =
-      let within : last < length xs = omega (arith, place, each, more) in
-      let old_is : get_or xs last only_null ≡ old = get_or_default xs last only_null old within ∙ sym is in
-      let at : get_or (slice_set xs last h) last only_null ≡ h = get_or-set_same xs last h only_null within in
-      let left : (v : Value) → has_value r v ≡ true → has_value h v ≡ true = λ v e. wide v (ap (λ b. b || has_value old v) e) in
-      let right : (v : Value) → has_value old v ≡ true → has_value h v ≡ true = λ v e. wide v (or_true (has_value r v) (has_value old v) e) in
-      elim (cases_lt n k) [
-        | inl earlier ↦ elim (cases_eq (n / 4) last) [
-          | inl same ↦
-              subst (λ i. HasRange (get_or (slice_set xs last h) i only_null) col (rows n)) (sym same)
-              (subst (λ (x : ColumnRange). HasRange x col (rows n)) (sym at) (wider old h right col (rows n)
-              (subst (λ (x : ColumnRange). HasRange x col (rows n)) (ap (λ i. get_or xs i only_null) same ∙ old_is) (before n earlier))))
-          | inr off ↦ subst (λ (x : ColumnRange). HasRange x col (rows n)) (sym (get_or-set_other xs last (n / 4) h only_null off)) (before n earlier)
-        ]
-        | inr end ↦
-            let same : k ≡ n = omega (arith, lt) in
-            let group : last ≡ k / 4 = omega (arith, place, each, more) in
-            subst (λ m. HasRange (get_or (slice_set xs last h) (m / 4) only_null) col (rows m)) same
-            (subst (λ i. HasRange (get_or (slice_set xs last h) i only_null) col (rows k)) group (subst (λ (x : ColumnRange). HasRange x col (rows k)) (sym at) (wider r h left col (rows k) here)))
-      ]
-    where
-      or_true : (a b : Bool) → b ≡ true → (a || b) ≡ true
-      or_true true b e = refl
-      or_true false b e = e
+-- one segment more of a group
+pub segment_more : (rows : ℕ → List (List Value)) (col first k : ℕ) (old range hull : ColumnRange) → ((number : ℕ) → first ≤ number → number < k → HasRange old col (rows number)) → HasRange range col (rows k)
+    → ((v : Value) → IsTrue (has_value range v || has_value old v) → IsTrue (has_value hull v)) → (number : ℕ) → first ≤ number → number < k + 1 → HasRange hull col (rows number)
+segment_more rows col first k old range hull before here wide number le lt = elim (cases_lt number k) [
+  | inl earlier ↦ wider old hull (λ v e. wide v (or_true (has_value range v) (has_value old v) e)) col (rows number) (before number le earlier)
+  | inr last ↦
+      let same : k ≡ number = omega (arith, lt, last) in
+      subst (λ n. HasRange hull col (rows n)) same (wider range hull (λ v e. wide v (ap (λ b. b || has_value old v) e)) col (rows k) here)
+]
 
-  -- the ranges with one segment more
-  abbrev AreMore : List ColumnRange → Type 0
-  AreMore new = (length new ≡ (k + 1 + 3) / 4) × ((n : ℕ) → n < k + 1 → HasRange (get_or new (n / 4) only_null) col (rows n))
+-- the range of one group more
+pub one_more_range : (size : ℕ) (table : MemoryTable) (column : ℕ) (old new : List ColumnRange) (range : ColumnRange) → new ≡ old ++ range ∷ [] → AreRangesOf size table column old → HasRangeInGroup size table (length old) column range
+    → AreRangesOf size table column new
+one_more_range size table column old new range is before here number there within = subst (λ (l : List ColumnRange). HasRange (get_or l (number / size) only_null) column (meaning_numbered table number).rows) (sym is) (elim (cases_lt (number / size) (length old)) [
+  | inl earlier ↦
+      subst (λ (r : ColumnRange). HasRange r column (meaning_numbered table number).rows) (sym (get_or_append_left old (range ∷ []) only_null (number / size) earlier)) (before number there earlier)
+  | inr late ↦
+      let same = end_is (number / size) (length old) (length new) late within (ap length is ∙ length-append old (range ∷ [])) in
+      subst (λ (r : ColumnRange). HasRange r column (meaning_numbered table number).rows) (sym (ap (λ i. get_or (old ++ range ∷ []) i only_null) same ∙ get_or-append_seam old range [] only_null)) (here number there same)
+])
+  where
+    end_is : (i n m : ℕ) → n ≤ i → i < m → m ≡ n + 1 → i ≡ n
+    end_is i n m le lt e = omega (arith, le, lt, e)
 
-  pub more_groups : (new : List ColumnRange) → new ≡ xs ++ r ∷ [] → k % 4 ≡ 0 → AreMore new
-  more_groups new is first = subst AreMore (sym is) (omega (arith, length-append xs (r ∷ []), each, first), group_added first)
+-- the hull of more groups
+pub hull_more : (ranges : List ColumnRange) (first k : ℕ) (old hull : ColumnRange) → ((group : ℕ) → first ≤ group → group < k → (v : Value) → IsTrue (has_value (get_or ranges group only_null) v) → IsTrue (has_value old v))
+    → ((v : Value) → IsTrue (has_value (get_or ranges k only_null) v || has_value old v) → IsTrue (has_value hull v))
+    → (group : ℕ) → first ≤ group → group < k + 1 → (v : Value) → IsTrue (has_value (get_or ranges group only_null) v) → IsTrue (has_value hull v)
+hull_more ranges first k old hull before wide group le lt v has = elim (cases_lt group k) [
+  | inl earlier ↦ wide v (or_true (has_value (get_or ranges k only_null) v) (has_value old v) (before group le earlier v has))
+  | inr last ↦
+      let same : group ≡ k = omega (arith, lt, last) in
+      wide v (ap (λ b. b || has_value old v) (subst (λ n. has_value (get_or ranges n only_null) v ≡ true) same has))
+]
 
-  pub same_groups : (new : List ColumnRange) (old h : ColumnRange) (last : ℕ) → new ≡ slice_set xs last h → last ≡ length xs - 1 → (k % 4 ≡ 0 → ⊥) → old ≡ get_or xs last old
-      → ((v : Value) → IsTrue (has_value r v || has_value old v) → IsTrue (has_value h v)) → AreMore new
-  same_groups new old h last is place more kept wide = subst AreMore (sym is) (length-set xs last h ∙ omega (arith, each, more), group_widened old h last place more kept wide)
+-- the range of a wide group has the values of each of its groups
+pub wide_in_group : (ranges : List ColumnRange) (wide : ℕ) (hull : ColumnRange) → wide * 16 + 16 ≤ length ranges
+    → ((group : ℕ) → wide * 16 ≤ group → group < wide * 16 + 16 → (v : Value) → IsTrue (has_value (get_or ranges group only_null) v) → IsTrue (has_value hull v))
+    → (table : MemoryTable) (column : ℕ) → AreRangesOf 4 table column ranges → HasRangeInGroup 64 table wide column hull
+wide_in_group ranges wide hull room has table column are number there same =
+    wider (get_or ranges (number / 4) only_null) hull (has (number / 4) (omega (arith, same)) (omega (arith, same))) column (meaning_numbered table number).rows (are number there (omega (arith, same, room)))

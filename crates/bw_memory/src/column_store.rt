@@ -7,12 +7,13 @@ ghost use Rattle.bw_file.specs.TableReading.{IsTableFault};
 ghost use Rattle.bw_memory.specs.ColumnState.{IsReadAgain, IsStateAfter};
 ghost use Rattle.bw_memory.specs.ColumnStore.{ColumnSource, HasColumn, HasColumnFault, IsTableOf};
 ghost use Rattle.bw_memory.specs.MemoryTable.{schema_of};
-ghost use Rattle.bw_memory.specs.Settled.{AreWithoutMatch, HasNoneSettled};
+ghost use Rattle.bw_memory.specs.Settled.{HasNoVerdicts, HaveVerdicts};
 ghost use Rattle.bw_memory.specs.declared.column_state.ColumnState.{ColumnState};
 ghost use Rattle.bw_memory.specs.declared.table.MemoryTable.{MemoryTable};
 
 use crate::table::MemoryTable;
 use bw_model::{Cond, Fault};
+use bw_ranges::Verdict;
 use std::alloc::Global;
 
 /// A table whose columns are in memory, or are read from a file by columns when they are needed.
@@ -65,18 +66,14 @@ pub trait ColumnStore {
         ensures states { (other : ℕ) → other ≢ column
             → state self.new other ≡ state self.old other };
 
-    /// Returns of which groups of four segments a condition is TRUE on no row, as far as the ranges
-    /// of these columns tell. Of a group past the last one nothing is told. The table and its source
-    /// stay. Errors: 801 if memory is refused.
-    fn settle(&mut self, alloc: Global, cond: &Cond, columns: &[usize]) -> Result<Vec<bool>, Fault>
-        ensures settled { IfOk result (λ settled.
-            AreWithoutMatch cond.now (table self.old) settled.items) }
-        ensures in_memory { IfOk result (λ settled. HasNoneSettled (source self.old) settled.items) }
-        ensures table { table self.new ≡ table self.old }
-        ensures source { source self.new ≡ source self.old }
-        ensures same { is_lost self.new ≡ is_lost self.old }
-        ensures failures { failures self.new ≡ failures self.old }
-        ensures state { (column : ℕ) → state self.new column ≡ state self.old column }
+    /// Returns for groups of [`crate::GROUP`] segments what the ranges of these columns, as far as
+    /// they are kept, tell of a condition. Of a group past the last one nothing is told. Errors: 801
+    /// if memory is refused.
+    fn settle(&self, alloc: Global, cond: &Cond, columns: &[usize]) -> Result<Vec<Verdict>, Fault>
+        ensures settled { IfOk result (λ verdicts.
+            HaveVerdicts cond.now (table self.now) verdicts.items) }
+        ensures in_memory { IfOk result (λ verdicts.
+            HasNoVerdicts (source self.now) verdicts.items) }
         ensures only_oom { IsOkUnless result no_memory };
 }
 
@@ -103,11 +100,11 @@ impl ColumnStore for MemoryTable {
     }
 
     fn settle(
-        &mut self,
+        &self,
         alloc: Global,
         _cond: &Cond,
         _columns: &[usize],
-    ) -> Result<Vec<bool>, Fault> {
+    ) -> Result<Vec<Verdict>, Fault> {
         Ok(Vec::new(alloc))
     }
 }

@@ -1,7 +1,7 @@
 //! The columns of a file by columns, each of which is read when it is needed.
 ghost use Rattle.std.proofs.Props.{props};
 ghost use Rattle.std.specs.Prelude.{◌≡◌, ◌≢◌, ◌-◌, ◌^◌, ◌<◌, ◌≤◌, ℕ, IfErr, IfOk, IsTrue, OnErr, OnOk, false};
-ghost use Rattle.std.specs.Prelude.{IsOkUnless, length, slice_set, true};
+ghost use Rattle.std.specs.Prelude.{IsOkUnless, [], length, slice_set, true};
 ghost use Rattle.bw_model.specs.Fault.{no_memory};
 ghost use Rattle.bw_io.specs.Source.{is_input_fault, is_read_fault};
 ghost use Rattle.bw_file.specs.TableReading.{IsTableFault};
@@ -12,21 +12,22 @@ ghost use Rattle.bw_memory.specs.Columns.{IsBlank};
 ghost use Rattle.bw_memory.specs.FileColumns.{HasColumnDamage, HasColumnsRead, IsBlankElsewhere};
 ghost use Rattle.bw_memory.specs.FileColumns.{state_of};
 ghost use Rattle.bw_memory.specs.MemoryTable.{schema_of};
-ghost use Rattle.bw_memory.specs.Ranges.{AreRangesOf, HaveRanges};
+ghost use Rattle.bw_memory.specs.Ranges.{AreRangesOf, HaveRanges, ranges_kept};
 ghost use Rattle.bw_memory.specs.ColumnState.{IsStateAfter};
+ghost use Rattle.bw_memory.specs.declared.table.MemoryTable.{MemoryTable};
 ghost use Rattle.bw_memory.specs.declared.column_state.ColumnState.TheVariants as state;
 ghost use Rattle.bw_memory.specs.Failed.{has_failed_to_read};
 
-use crate::column_ranges::{ColumnRanges, column_ranges};
+use crate::column_ranges::{column_ranges, wide_ranges};
 use crate::column_state::ColumnState;
 use crate::column_store::ColumnStore;
 use crate::columnar::ColumnarTable;
-use crate::settling::settled_groups;
+use crate::settling::verdicts_on_groups;
 use crate::table::MemoryTable;
 use bw_file::in_layout;
 use bw_io::RandomAccess;
 use bw_model::{Cond, Fault, Place, code};
-use bw_ranges::ColumnRange;
+use bw_ranges::{ColumnRange, Verdict};
 use std::alloc::Global;
 
 /// A file by columns and its table. A column is read when it is first needed, and stays in memory; so
@@ -37,13 +38,18 @@ pub struct FileColumns<D: RandomAccess + Drop> {
     pub(crate) device: D,
     pub(crate) columnar: ColumnarTable,
     pub(crate) states: Vec<ColumnState>,
-    /// The ranges of columns that conditions named. They are forgotten when a column is read.
-    pub(crate) ranges: Vec<ColumnRanges>,
+    /// For each column the ranges of its values, if they were made when it was read.
+    pub(crate) ranges: Vec<Vec<ColumnRange>>,
+    /// And the ranges of wide groups.
+    pub(crate) wide_ranges: Vec<Vec<ColumnRange>>,
     pub(crate) is_lost: bool,
     ghost all: { length states.items ≡ column_count columnar },
     ghost have: { HasColumnsRead (D.state device).known columnar states.items } by { Prim.hlevel props },
     ghost blank: { IsBlankElsewhere columnar states.items },
-    ghost ranged: { HaveRanges (table_in columnar) ranges.items },
+    ghost lists: { length ranges.items ≡ column_count columnar },
+    ghost ranged: { HaveRanges 4 (table_in columnar) ranges.items },
+    ghost wide_lists: { length wide_ranges.items ≡ column_count columnar },
+    ghost wide_ranged: { HaveRanges 64 (table_in columnar) wide_ranges.items },
     ghost damage: { HasColumnDamage (D.state device).known columnar states.items },
     ghost counter_fits: { is_lost ≡ false → (D.state device).failures < 2 ^ 64 - 1 },
     ghost confirmed: { is_lost ≡ false → (D.state device).confirmed ≡ true },
@@ -74,7 +80,8 @@ impl<D: RandomAccess + Drop> FileColumns<D> {
             device,
             columnar,
             states,
-            ranges: Vec::new(alloc),
+            ranges: no_ranges(alloc, count)?,
+            wide_ranges: no_ranges(alloc, count)?,
             is_lost: false,
         })
     }
@@ -124,7 +131,7 @@ impl<D: RandomAccess + Drop> FileColumns<D> {
         }
     }
 
-    /// Stores a column's blocks.
+    /// Stores a column's blocks, and makes the ranges of its values.
     fn store(&mut self, alloc: Global, column: usize, blocks: Vec<u8>)
         requires column { column < column_count self.old.columnar }
         requires blocks { AreFileBlocks (D.state self.old.device).known self.old.columnar column
@@ -137,7 +144,8 @@ impl<D: RandomAccess + Drop> FileColumns<D> {
             ≡ slice_set self.old.states.items column state.Read }
     {
         self.columnar.put_column(alloc, column, blocks);
-        self.ranges = Vec::new(alloc);
+        self.ranges[column] = ranges_of(alloc, self.columnar.table(), column);
+        self.wide_ranges[column] = wide_ranges_of(alloc, &self.ranges[column]);
         self.states[column] = ColumnState::Read;
     }
 
@@ -158,35 +166,40 @@ impl<D: RandomAccess + Drop> FileColumns<D> {
     }
 }
 
-impl<D: RandomAccess + Drop> FileColumns<D> {
-    /// Keeps the ranges of a column that was read, unless they are kept already. Errors: 801 if memory
-    /// is refused.
-    fn keep_ranges(&mut self, alloc: Global, column: usize) -> Result<(), Fault>
-        ensures columnar { self.new.columnar ≡ self.old.columnar }
-        ensures device { self.new.device ≡ self.old.device }
-        ensures states { self.new.states ≡ self.old.states }
-        ensures same { self.new.is_lost ≡ self.old.is_lost }
-        ensures only_oom { IsOkUnless result no_memory }
-    {
-        if !matches!(self.states.get(column), Some(ColumnState::Read))
-            || self.ranges.iter().any(|kept| kept.column == column)
-        {
-            return Ok(());
-        }
-        let groups = ranges_of(alloc, self.columnar.table(), column)?;
-        self.ranges.push(ColumnRanges { column, groups })?;
-        Ok(())
+/// Returns for each of so many columns no range. Errors: 801 if memory is refused.
+fn no_ranges(alloc: Global, count: usize) -> Result<Vec<Vec<ColumnRange>>, Fault>
+    ensures each { IfOk result (λ kept. length kept.items ≡ count) }
+    ensures none { IfOk result (λ kept. (column : ℕ) → ranges_kept kept.items column ≡ []) }
+    ensures only_oom { IsOkUnless result no_memory }
+{
+    let mut kept = Vec::with_capacity(alloc, count)?;
+    for _ in 0..count {
+        kept.push(Vec::new(alloc))?;
+    }
+    Ok(kept)
+}
+
+/// Returns the ranges of a column's values in a table; none, if memory is refused.
+#[tactic(auto, unfolding(bw_file::specs::Blocks::form_of))]
+fn ranges_of(alloc: Global, table: &MemoryTable, column: usize) -> Vec<ColumnRange>
+    requires { column < length (schema_of table.now).columns.items }
+    ensures { AreRangesOf 4 table.now column result.items }
+{
+    match in_layout!(table.layout(), column_ranges::<_>(alloc, table, column)) {
+        Ok(ranges) => ranges,
+        Err(_) => Vec::new(alloc),
     }
 }
 
-/// Returns the ranges of a column's values in a table. Errors: 801 if memory is refused.
-#[tactic(auto, unfolding(bw_file::specs::Blocks::form_of))]
-fn ranges_of(alloc: Global, table: &MemoryTable, column: usize) -> Result<Vec<ColumnRange>, Fault>
-    requires { column < length (schema_of table.now).columns.items }
-    ensures ranges { IfOk result (λ ranges. AreRangesOf table.now column ranges.items) }
-    ensures only_oom { IsOkUnless result no_memory }
+/// Returns the ranges of wide groups, given those of groups; none, if memory is refused.
+fn wide_ranges_of(alloc: Global, ranges: &[ColumnRange]) -> Vec<ColumnRange>
+    ensures { (table : MemoryTable) (column : ℕ) → AreRangesOf 4 table column ranges.now
+        → AreRangesOf 64 table column result.items }
 {
-    in_layout!(table.layout(), column_ranges::<_>(alloc, table, column))
+    match wide_ranges(alloc, ranges) {
+        Ok(wide) => wide,
+        Err(_) => Vec::new(alloc),
+    }
 }
 
 /// Returns whether a read failed.
@@ -226,15 +239,8 @@ impl<D: RandomAccess + Drop> ColumnStore for FileColumns<D> {
         }
     }
 
-    fn settle(
-        &mut self,
-        alloc: Global,
-        cond: &Cond,
-        columns: &[usize],
-    ) -> Result<Vec<bool>, Fault> {
-        for column in columns {
-            self.keep_ranges(alloc, *column)?;
-        }
-        settled_groups(alloc, self.columnar.table(), &self.ranges, cond)
+    fn settle(&self, alloc: Global, cond: &Cond, columns: &[usize]) -> Result<Vec<Verdict>, Fault> {
+        let table = self.columnar.table();
+        verdicts_on_groups(alloc, table, &self.ranges, &self.wide_ranges, cond, columns)
     }
 }

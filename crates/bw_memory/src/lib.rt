@@ -11,7 +11,9 @@
 //! A [`ColumnarTable`] is a table of a file by columns: [`ColumnarTable::open`] reads the header, and
 //! [`ColumnarTable::read_column`] one column. A column that wasn't read takes the memory of one
 //! block, which each segment has, and has its minimum in each row. A [`SegmentWindow`] has some
-//! segments of such a file at a time, and the memory of no more.
+//! segments of such a file at a time, and the memory of no more. [`FileColumns`] reads a column when
+//! it is needed, and keeps the ranges of its values in groups of [`GROUP`] segments, unless these are
+//! nearly alike. By them [`ColumnStore::settle`] finds where a condition is TRUE on no row, or on each.
 //!
 //! Read `specs/MemoryTable.antt` first, then `table.rt` and `reading.rt`; for files by columns
 //! `specs/Columnar.antt`, then `opening.rt` and `columns.rt`, and `specs/Windows.antt` with
@@ -41,6 +43,7 @@ mod settling;
 mod table;
 mod windows;
 
+pub use column_ranges::GROUP;
 pub use column_state::ColumnState;
 pub use column_store::ColumnStore;
 pub use columnar::ColumnarTable;

@@ -1,52 +1,49 @@
-//! Which groups of segments have no row on which a condition is TRUE, as the ranges of values tell.
-ghost use Rattle.std.specs.Prelude.{◌≡◌, List, IfOk, IsOkUnless, false, map, true};
-ghost use Rattle.bw_model.specs.Cond.{is_match};
+//! What the ranges of values tell of a condition on groups of segments.
+ghost use Rattle.std.specs.Prelude.{◌≡◌, ◌<◌, ℕ, List, IfOk, IsOkUnless, false, length, map};
 ghost use Rattle.bw_model.specs.Fault.{no_memory};
 ghost use Rattle.bw_model.specs.Row.{Value};
-ghost use Rattle.bw_ranges.specs.ColumnRange.{IsWithin, range_of_column};
-ghost use Rattle.bw_memory.specs.Ranges.{FitElsewhere, FitGroup, HaveRanges};
-ghost use Rattle.bw_memory.specs.Settled.{AreWithoutMatch, IsGroupWithoutMatch};
+ghost use Rattle.bw_ranges.specs.ColumnRange.{range_in, range_of_column};
+ghost use Rattle.bw_memory.specs.MemoryTable.{meaning_numbered, segments_in};
+ghost use Rattle.bw_memory.specs.Ranges.{AreWithin, HasRangeInGroup, HasRangeInTable, HaveRanges};
+ghost use Rattle.bw_memory.specs.Ranges.{is_named};
+ghost use Rattle.bw_memory.specs.Settled.{HaveVerdicts, HoldsOn, HoldsOnGroup};
 ghost use Rattle.bw_memory.specs.declared.table.MemoryTable.{MemoryTable};
 
-use crate::column_ranges::{ColumnRanges, GROUP};
+use crate::column_ranges::{GROUP, WIDE};
 use crate::table::MemoryTable;
 use bw_model::{Column, Cond, Fault};
 use bw_ranges::{ColumnRange, Verdict, decide};
 use std::alloc::Global;
 
-/// If of so many groups none is settled, no other is asked about: of values in no order, none would
-/// be. 50 comparisons over 1,221 groups took C 0.93 ms (2026-11-30).
+/// If of so many groups all are open, no other is decided on: of values in no order, all would be. 50
+/// comparisons over 1,221 groups took C 0.93 ms (2026-11-30).
 const ASKED: u32 = 100;
 
-/// Returns for each group of segments whether a condition is TRUE on none of its rows, as ranges of
-/// some columns tell. The list may end early: of the groups past its end nothing is told. Errors: 801
-/// if memory is refused.
-pub(crate) fn settled_groups(
+/// Returns for each group of segments what the ranges of these columns tell of a condition. For each
+/// column of the table a list of ranges is kept, and one of the ranges of wide groups. The list may
+/// end early: of the groups past its end nothing is told. Errors: 801 if memory is refused.
+pub(crate) fn verdicts_on_groups(
     alloc: Global,
     table: &MemoryTable,
-    kept: &[ColumnRanges],
+    kept: &[Vec<ColumnRange>],
+    wide: &[Vec<ColumnRange>],
     cond: &Cond,
-) -> Result<Vec<bool>, Fault>
-    requires ranges { HaveRanges table.now kept.now }
-    ensures settled { IfOk result (λ settled.
-        AreWithoutMatch cond.now table.now settled.items) }
+    columns: &[usize],
+) -> Result<Vec<Verdict>, Fault>
+    requires kept { HaveRanges 4 table.now kept.now }
+    requires wide { HaveRanges 64 table.now wide.now }
+    ensures verdicts { IfOk result (λ verdicts.
+        HaveVerdicts cond.now table.now verdicts.items) }
     ensures only_oom { IsOkUnless result no_memory }
 {
-    let mut settled = Vec::new(alloc);
-    if kept.is_empty() {
-        return Ok(settled);
-    }
-    let mut ranges = whole_ranges(alloc, &table.schema().columns)?;
-    let mut any = false;
-    for group in 0..table.segments().div_ceil(GROUP) {
-        if group == ASKED && !any {
-            return Ok(settled);
+    let whole = whole_ranges(alloc, &table.schema().columns)?;
+    match decide_rows(cond, &whole) {
+        Verdict::Open if are_kept(kept, columns) => {
+            verdicts_by_ranges(alloc, table, &whole, kept, wide, cond, columns)
         }
-        let is_settled = settles(cond, &mut ranges, kept, group as usize);
-        settled.push(is_settled)?;
-        any |= is_settled;
+        Verdict::Open => Ok(Vec::new(alloc)),
+        verdict => one_verdict(alloc, table, cond, verdict),
     }
-    Ok(settled)
 }
 
 /// Returns the range of what each column admits. Errors: 801 if memory is refused.
@@ -61,42 +58,154 @@ fn whole_ranges(alloc: Global, columns: &[Column]) -> Result<Vec<ColumnRange>, F
     Ok(ranges)
 }
 
-/// Returns true only if a condition is TRUE on no row of a group of segments, whose ranges are put in
-/// place of those of another one, or of all rows.
-fn settles(cond: &Cond, ranges: &mut [ColumnRange], kept: &[ColumnRanges], group: usize) -> bool
-    ensures elsewhere { (table : MemoryTable) → FitElsewhere table kept.now ranges.old
-        → FitElsewhere table kept.now ranges.new }
-    ensures settled { result ≡ true → (table : MemoryTable) → HaveRanges table kept.now
-        → FitElsewhere table kept.now ranges.old → IsGroupWithoutMatch cond.now table group }
+/// Returns what ranges tell of a condition on any rows whose values are in them.
+fn decide_rows(cond: &Cond, ranges: &[ColumnRange]) -> Verdict
+    ensures { (rows : List (List Value)) → AreWithin ranges.now rows
+        → HoldsOn cond.now rows result }
 {
-    set_ranges(ranges, kept, group) && matches_none(cond, ranges)
+    decide(cond, ranges)
 }
 
-/// Puts the ranges of a group of segments in place of those of another one, or of all rows. Returns
-/// whether there was a range for each column of which some are kept.
-fn set_ranges(ranges: &mut [ColumnRange], kept: &[ColumnRanges], group: usize) -> bool
-    ensures elsewhere { (table : MemoryTable) → FitElsewhere table kept.now ranges.old
-        → FitElsewhere table kept.now ranges.new }
-    ensures group { result ≡ true → (table : MemoryTable) → HaveRanges table kept.now
-        → FitElsewhere table kept.now ranges.old → FitGroup table group ranges.new }
-{
-    for place in 0..kept.len() {
-        let column = kept[place].column;
-        match kept[place].groups.get(group) {
-            Some(range) if column < ranges.len() => ranges[column] = *range,
-            _ => return false,
+/// Returns whether ranges are kept of one of these columns.
+fn are_kept(kept: &[Vec<ColumnRange>], columns: &[usize]) -> bool {
+    for column in columns {
+        if let Some(ranges) = kept.get(*column) {
+            if !ranges.is_empty() {
+                return true;
+            }
         }
     }
-    true
+    false
 }
 
-/// Returns true only if a condition is TRUE on no row within ranges.
-fn matches_none(cond: &Cond, ranges: &[ColumnRange]) -> bool
-    ensures { result ≡ true → (row : List Value) → IsWithin ranges.now row
-        → is_match cond.now row ≡ false }
+/// Returns the same verdict on each group of segments. Errors: 801 if memory is refused.
+fn one_verdict(
+    alloc: Global,
+    table: &MemoryTable,
+    cond: &Cond,
+    verdict: Verdict,
+) -> Result<Vec<Verdict>, Fault>
+    requires { (number : ℕ) → number < segments_in table.now
+        → HoldsOn cond.now (meaning_numbered table.now number).rows verdict }
+    ensures verdicts { IfOk result (λ verdicts.
+        HaveVerdicts cond.now table.now verdicts.items) }
+    ensures only_oom { IsOkUnless result no_memory }
 {
-    match decide(cond, ranges) {
-        Verdict::NoRow => true,
-        Verdict::EveryRow | Verdict::Open => false,
+    let groups = table.segments().div_ceil(GROUP) as usize;
+    let mut verdicts = Vec::with_capacity(alloc, groups)?;
+    verdicts.resize(groups, verdict)?;
+    Ok(verdicts)
+}
+
+/// Returns what the kept ranges tell of a condition on the groups of segments, given the ranges of
+/// what the columns admit. A group has the verdict on its wide group, unless that is open. Errors: 801
+/// if memory is refused.
+fn verdicts_by_ranges(
+    alloc: Global,
+    table: &MemoryTable,
+    whole: &[ColumnRange],
+    kept: &[Vec<ColumnRange>],
+    wide: &[Vec<ColumnRange>],
+    cond: &Cond,
+    columns: &[usize],
+) -> Result<Vec<Verdict>, Fault>
+    requires whole { (column : ℕ) → HasRangeInTable table.now column (range_in whole.now column) }
+    requires kept { HaveRanges 4 table.now kept.now }
+    requires wide { HaveRanges 64 table.now wide.now }
+    ensures verdicts { IfOk result (λ verdicts.
+        HaveVerdicts cond.now table.now verdicts.items) }
+    ensures only_oom { IsOkUnless result no_memory }
+{
+    let groups = table.segments().div_ceil(GROUP);
+    let mut verdicts = Vec::with_capacity(alloc, groups as usize)?;
+    let mut ranges = Vec::with_capacity(alloc, whole.len())?;
+    ranges.extend_from_slice(whole)?;
+    let mut on_wide = Verdict::Open;
+    let mut is_any_decided = false;
+    for group in 0..groups {
+        if group == ASKED && !is_any_decided {
+            return Ok(verdicts);
+        }
+        if group % WIDE == 0 {
+            let number = (group / WIDE) as usize;
+            on_wide = group_verdict(cond, &mut ranges, whole, wide, columns, number);
+        }
+        let verdict = match on_wide {
+            Verdict::Open => {
+                group_verdict(cond, &mut ranges, whole, kept, columns, group as usize)
+            }
+            verdict => verdict,
+        };
+        verdicts.push(verdict)?;
+        is_any_decided |= verdict != Verdict::Open;
     }
+    Ok(verdicts)
+}
+
+/// Returns what the kept ranges tell of a condition on a group of segments. The ranges of these
+/// columns in it are put in place of those in another one.
+fn group_verdict(
+    cond: &Cond,
+    ranges: &mut [ColumnRange],
+    whole: &[ColumnRange],
+    kept: &[Vec<ColumnRange>],
+    columns: &[usize],
+    group: usize,
+) -> Verdict
+    requires { length ranges.old ≡ length whole.now }
+    ensures others { (column : ℕ) → is_named columns.now column ≡ false
+        → range_in ranges.new column ≡ range_in ranges.old column }
+    ensures holds { (size : ℕ) (table : MemoryTable) → HaveRanges size table kept.now
+        → ((column : ℕ) → HasRangeInTable table column (range_in whole.now column))
+        → ((column : ℕ) → is_named columns.now column ≡ false
+        → HasRangeInTable table column (range_in ranges.old column))
+        → HoldsOnGroup cond.now size table group result }
+{
+    put_ranges(ranges, whole, kept, columns, group);
+    decide_rows(cond, ranges)
+}
+
+/// Puts the ranges of these columns in a group of segments in place of those in another group.
+fn put_ranges(
+    ranges: &mut [ColumnRange],
+    whole: &[ColumnRange],
+    kept: &[Vec<ColumnRange>],
+    columns: &[usize],
+    group: usize,
+)
+    requires { length ranges.old ≡ length whole.now }
+    ensures others { (column : ℕ) → is_named columns.now column ≡ false
+        → range_in ranges.new column ≡ range_in ranges.old column }
+    ensures group { (size : ℕ) (table : MemoryTable) → HaveRanges size table kept.now
+        → ((column : ℕ) → HasRangeInTable table column (range_in whole.now column))
+        → ((column : ℕ) → is_named columns.now column ≡ false
+        → HasRangeInTable table column (range_in ranges.old column))
+        → (column : ℕ) → HasRangeInGroup size table group column (range_in ranges.new column) }
+{
+    for column in columns {
+        if *column < ranges.len() {
+            ranges[*column] = range_in_group(whole, kept, *column, group);
+        }
+    }
+}
+
+/// Returns the range of a column in a group of segments, if one is kept, or else that of what the
+/// column admits.
+fn range_in_group(
+    whole: &[ColumnRange],
+    kept: &[Vec<ColumnRange>],
+    column: usize,
+    group: usize,
+) -> ColumnRange
+    requires { column < length whole.now }
+    ensures { (size : ℕ) (table : MemoryTable) → HaveRanges size table kept.now
+        → HasRangeInTable table column (range_in whole.now column)
+        → HasRangeInGroup size table group column result }
+{
+    if let Some(ranges) = kept.get(column) {
+        if let Some(range) = ranges.get(group) {
+            return *range;
+        }
+    }
+    whole[column]
 }

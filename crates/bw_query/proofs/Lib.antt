@@ -7,6 +7,7 @@ pub mod NamingLemmas
 pub mod PartLemmas
 pub mod ScanLemmas
 pub mod SettledLemmas
+pub mod CountedLemmas
 pub mod StoreLemmas
 pub mod TableExits
 pub mod TableLemmas

@@ -1,5 +1,5 @@
 -- What a result, or a count, has consumed of a table's segments.
-use Rattle.std.specs.Prelude.{◌≡◌, ◌≤◌, ◌+◌, ◌*◌, ℕ, List, [], IsTrue, length}
+use Rattle.std.specs.Prelude.{◌≡◌, ◌≤◌, ◌+◌, ◌*◌, ℕ, Bool, List, [], IsTrue, length}
 use Rattle.std.specs.List.{list_all}
 use Rattle.bw_model.specs.declared.column.Column.{Column}
 use Rattle.bw_model.specs.declared.query.Query.{Query}
@@ -9,6 +9,9 @@ use Rattle.bw_model.specs.Selection.{matching_rows}
 use Rattle.bw_answer.specs.Answer.{csv_text, is_count_all, meaning}
 use Rattle.bw_answer.specs.Progress.{GoesOver, IsOver, query_in}
 use Rattle.bw_answer.specs.declared.answer.Answer.{Answer}
+use Rattle.bw_memory.specs.MemoryTable.{rows_of, schema_of}
+use Rattle.bw_memory.specs.declared.table.MemoryTable.{MemoryTable}
+use Rattle.bw_ranges.specs.declared.verdict.Verdict.{Verdict}
 use Rattle.bw_run.specs.declared.run.Counts.{Counts}
 use Rattle.bw_query.specs.declared.answer_consumer.AnswerConsumer.{AnswerConsumer}
 use Rattle.bw_query.specs.declared.match_counter.MatchCounter.{MatchCounter}
@@ -17,7 +20,7 @@ use Rattle.bw_query.specs.declared.scan.Scan.TheVariants.{Program}
 use Rattle.bw_query.specs.declared.served.Scanned.{Scanned}
 use Rattle.bw_query.specs.declared.served.TableText.{TableText}
 use Rattle.bw_query.specs.Scan.{IsFor, loads_in, skips_in}
-use Rattle.bw_query.specs.Segments.{IsScanOf}
+use Rattle.bw_query.specs.Segments.{IsScanOf, groups_left}
 
 -- the counts of a scan's run over a group of rows
 pub record IsRunOver (columns : List Column) (scan : Scan) (group : List (List Value))
@@ -62,13 +65,15 @@ pub record CountsColumns (counter : MatchCounter) (columns : List Column) : Type
   pub matches : counter.matches ≤ counter.rows
   pub few : AreFew counter.rows counter.scanned
 
--- from the first state to the second the matching rows of these groups were counted
+-- from the first state to the second the rows of these groups and the matching ones were counted
 pub record HasCounted (start : MatchCounter) (columns : List Column)
     (groups : List (List (List Value))) (now : MatchCounter) : Type 0 where
   pub program : now.certified.now ≡ start.certified.now
   pub answer : now.answer ≡ start.answer
-  pub rows : length (together groups) ≡ now.rows
-  pub matches : length (matching_rows (query_in start.answer).cond (together groups)) ≡ now.matches
+  pub rows : start.rows + length (together groups) ≡ now.rows
+  pub matches :
+      start.matches + length (matching_rows (query_in start.answer).cond (together groups))
+      ≡ now.matches
   pub counts : IsScanOf columns (Program start.certified.now) groups now.scanned
 
 -- For a result that this one was at the start, this is the text over these groups of rows, which
@@ -78,3 +83,24 @@ pub record IsTextFrom (start : Answer) (scan : Scan) (columns : List Column)
   pub counts : IsScanOf columns scan groups found.scanned
   pub is : (names : List (List ℕ)) (query : Query) → IsOver names query [] start
       → found.text.items ≡ csv_text (meaning names query (together groups))
+
+-- For a result that the counter's one was at the start, this is the text over any rows that are as
+-- many as the counter began with and those of these groups, and of which as many match. The groups
+-- were scanned.
+pub record IsTextCounted (start : MatchCounter) (columns : List Column)
+    (groups : List (List (List Value))) (found : TableText) : Type 0 where
+  pub counts : IsScanOf columns (Program start.certified.now) groups found.scanned
+  pub is : (names : List (List ℕ)) (query : Query) → IsOver names query [] start.answer
+      → (rows : List (List Value)) → length rows ≡ start.rows + length (together groups)
+      → length (matching_rows (query_in start.answer).cond rows)
+      ≡ start.matches + length (matching_rows (query_in start.answer).cond (together groups))
+      → found.text.items ≡ csv_text (meaning names query rows)
+
+-- For a result that this one was at the start, this is the text over all rows of a table. The
+-- segments that aren't left out were scanned.
+pub record IsTextOfRest (start : Answer) (scan : Scan) (table : MemoryTable) (counts : Bool)
+    (verdicts : List Verdict) (found : TableText) : Type 0 where
+  pub scanned : IsScanOf (schema_of table).columns.items scan (groups_left table counts verdicts)
+      found.scanned
+  pub is : (names : List (List ℕ)) (query : Query) → IsOver names query [] start
+      → found.text.items ≡ csv_text (meaning names query (rows_of table))

@@ -4,6 +4,7 @@ pub mod ProgramCache
 pub mod Scan
 pub mod Served
 pub mod TableAnswer
+pub mod Settled
 pub mod Segments
 pub mod Consumers
 pub mod SegmentLemmas

@@ -13,14 +13,16 @@ use Rattle.bw_file.specs.Reading.{State}
 use Rattle.bw_file.specs.TableReader.{AnswersFault, ReadProgress, ReadWhole, SameTable}
 use Rattle.bw_file.specs.TableReader.{found_so_far, final_result}
 use Rattle.bw_file.specs.declared.table_reader.TableReader.{TableReader}
-use Rattle.bw_memory.specs.MemoryTable.{meaning_numbered, schema_of}
-use Rattle.bw_memory.specs.Settled.{is_settled}
+use Rattle.bw_memory.specs.MemoryTable.{meaning_numbered, rows_of, schema_of, segments_in}
 use Rattle.bw_memory.specs.StoredSegments.{stored_groups}
 use Rattle.bw_memory.specs.declared.table.MemoryTable.{MemoryTable}
+use Rattle.bw_ranges.specs.declared.verdict.Verdict.{Verdict}
 use Rattle.bw_query.specs.declared.scan.Scan.{Scan}
 use Rattle.bw_query.specs.declared.served.Scanned.{Scanned}
 use Rattle.bw_query.specs.declared.served.TableText.{TableText}
 use Rattle.bw_query.specs.Scan.{loads_in, skips_in}
+use Rattle.bw_query.specs.Served.{finder_of}
+use Rattle.bw_query.specs.Settled.{is_settled, only_counts, settled_by}
 
 -- A consumer has consumed a group of rows of these columns, one or more: it fits further ones, and
 -- has consumed so many rows more, and this group after those before it.
@@ -101,3 +103,16 @@ open_group table settled number = if is_settled settled number then []
 -- the groups of rows of the first segments, this many, without those that are settled
 unfoldable pub open_groups : MemoryTable → List Bool → ℕ → List (List (List Value))
 open_groups table settled count = flat_map (open_group table settled) (range_with_len 0 count)
+
+-- the groups of rows that a scan doesn't leave out, by the verdicts on a table's segments
+abbrev pub groups_left : MemoryTable → Bool → List Verdict → List (List (List Value))
+groups_left table counts verdicts =
+    open_groups table (settled_by counts verdicts) (segments_in table)
+
+-- The text is that of the query's meaning over all rows of a table. The segments that aren't left
+-- out were scanned.
+pub record IsTextOver (table : MemoryTable) (verdicts : List Verdict) (query : Query) (scan : Scan)
+    (text : List ℕ) (scanned : Scanned) : Type 0 where
+  pub counts : IsScanOf (schema_of table).columns.items scan
+      (groups_left table (only_counts query (finder_of scan)) verdicts) scanned
+  pub is : text ≡ csv_text (meaning (names_of (schema_of table).columns.items) query (rows_of table))

@@ -1,5 +1,6 @@
 -- The expected result of a query over a table whose columns are read when they are needed.
-use Rattle.std.specs.Prelude.{◌≡◌, ◌⊎◌, ◌+◌, ◌∷◌, [], ℕ, false, List, Option, Result, Ok, Err}
+use Rattle.std.specs.Prelude.{◌≡◌, ◌⊎◌, ◌+◌, ◌∷◌, [], ℕ, Bool, true, false, List, Option}
+use Rattle.std.specs.Prelude.{Result, Ok, Err}
 use Rattle.bw_model.specs.declared.cond.Cond.{Cond}
 use Rattle.bw_model.specs.declared.fault.Fault.{Fault}
 use Rattle.bw_model.specs.declared.query.Query.{Query}
@@ -12,6 +13,7 @@ use Rattle.bw_memory.specs.ColumnStore.{ColumnSource, HasFirstFault, HasRows, in
 use Rattle.bw_query.specs.MemoryAnswer.{AnswersRows, RowsText}
 use Rattle.bw_query.specs.NamedColumns.{is_named_by}
 use Rattle.bw_query.specs.ProgramChoice.{IsServedAmong}
+use Rattle.bw_query.specs.Settled.{only_counts}
 use Rattle.bw_query.specs.declared.served.StoreServed.{StoreServed}
 
 -- the text is that of the query's meaning over rows that have the columns which the query names
@@ -37,15 +39,20 @@ IsStoreAnswer asks schema source (Err fault) = is_memory fault ≡ false
     → asks schema (Err fault) ⊎ HasColumnError asks schema source fault
 
 -- The groups of rows that are left of some groups without settled ones, this many. The condition is
--- TRUE on no row of a settled group.
-pub data IsRest (cond : Cond) : List (List (List Value)) → List (List (List Value)) → ℕ
-    → Type 0 where
-  nothing : IsRest cond [] [] 0
+-- TRUE on no row of a settled group; or, if rows are only counted, on each: then its rows are counted
+-- without being read.
+pub data IsRest (cond : Cond) (counts : Bool) : List (List (List Value)) → List (List (List Value))
+    → ℕ → Type 0 where
+  nothing : IsRest cond counts [] [] 0
   keeps : {groups rest : List (List (List Value))} {count : ℕ} (group : List (List Value))
-      → IsRest cond groups rest count → IsRest cond (group ∷ groups) (group ∷ rest) count
+      → IsRest cond counts groups rest count
+      → IsRest cond counts (group ∷ groups) (group ∷ rest) count
   omits : {groups rest : List (List (List Value))} {count : ℕ} (group : List (List Value))
-      → matching_rows cond group ≡ [] → IsRest cond groups rest count
-      → IsRest cond (group ∷ groups) rest (count + 1)
+      → matching_rows cond group ≡ [] → IsRest cond counts groups rest count
+      → IsRest cond counts (group ∷ groups) rest (count + 1)
+  counted : {groups rest : List (List (List Value))} {count : ℕ} (group : List (List Value))
+      → counts ≡ true → matching_rows cond group ≡ group → IsRest cond counts groups rest count
+      → IsRest cond counts (group ∷ groups) rest (count + 1)
 
 -- no segment of a table in memory is settled
 abbrev pub SettlesOf : ColumnSource → ℕ → Type 0
@@ -57,7 +64,7 @@ SettlesOf (in_file known header) count = Unit {0}
 pub record IsServedFrom (source : ColumnSource) (files : List (List ℕ)) (schema : Schema)
     (query : Query) (rows : List (List Value)) (how : StoreServed) : Type 0 where
   pub rest : List (List (List Value))
-  pub settled : IsRest query.cond (groups_of rows) rest how.settled
+  pub settled : IsRest query.cond (only_counts query how.served.by) (groups_of rows) rest how.settled
   pub from : SettlesOf source how.settled
   pub serves : IsServedAmong files schema query rest how.served
 

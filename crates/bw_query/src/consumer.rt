@@ -18,7 +18,7 @@ pub(crate) trait SegmentConsumer {
     /// It can consume segments of these columns.
     ghost fits: { Self → List Column → Type 0 };
 
-    /// How many rows it has consumed.
+    /// How many rows it has consumed, with those that it began with.
     ghost rows: { Self → ℕ };
 
     /// From the first state to the second it has consumed these groups of rows of these columns.

@@ -25,6 +25,7 @@ mod program_cache;
 mod scan;
 mod segments;
 mod served;
+mod settled;
 mod stored_columns;
 mod table_calls;
 mod table_text;

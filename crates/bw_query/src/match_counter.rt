@@ -2,7 +2,7 @@
 ghost use Rattle.std.specs.Prelude.{◌≡◌, length};
 ghost use Rattle.bw_model.specs.Selection.{matching_rows};
 ghost use Rattle.bw_answer.specs.Progress.{query_in};
-ghost use Rattle.bw_query.specs.Consumers.{CountsColumns, HasCounted, IsRunOver, IsTextFrom};
+ghost use Rattle.bw_query.specs.Consumers.{CountsColumns, HasCounted, IsRunOver, IsTextCounted};
 ghost use Rattle.bw_query.specs.Scan.{IsFor};
 ghost use Rattle.bw_query.specs.declared.scan.Scan.TheVariants.{Program};
 
@@ -15,7 +15,8 @@ use bw_run::{Counts, Registers};
 use bw_segment::Segment;
 
 /// Counts the rows of segments, and those that a program selects, for a query that only counts
-/// them. No value is read but by the program, and the answer gets both numbers at the end.
+/// them. It may begin with numbers of rows that were counted before. No value is read but by the
+/// program, and the answer gets both numbers at the end.
 #[derive(Drop)]
 pub(crate) struct MatchCounter<'a, 'q> {
     pub(crate) certified: &'a Certified,
@@ -32,7 +33,7 @@ impl SegmentConsumer for MatchCounter<'_, '_> {
 
     ghost over = { HasCounted };
 
-    ghost gives = { λ start. IsTextFrom start.answer (Program start.certified.now) };
+    ghost gives = { IsTextCounted };
 
     #[inline(always)]
     fn take<S: Segment>(&mut self, segment: &S, registers: &mut Registers) -> Result<(), Fault> {

@@ -72,7 +72,8 @@ pub fn answer_in_memory<K: Sink>(
 /// rows are found by the scan that is kept for the statement's condition. If none is, one is looked
 /// for and kept: the program of the first program file that is accepted for the condition; else the
 /// planner's, if it proposes one that the checker accepts; else the fallback. Segments are passed
-/// over if the ranges of their values settle that the condition is TRUE on none of their rows.
+/// over if the ranges of their values settle that the condition is TRUE on none of their rows; or on
+/// each, if the query only counts rows by a program: their rows are counted without being read.
 /// Returns how the query was served, and how many segments were passed over.
 ///
 /// Errors, in this order: the statement's (401 to 408), those of the columns (306 to 308, 305, 701)
@@ -120,9 +121,9 @@ pub fn answer_with_programs<C: ColumnStore, K: Sink>(
     let query = parse(alloc, store.table().schema(), sql)?;
     read_named(alloc, store, &query)?;
     let number = programs.find_or_add(alloc, store.table(), &query.cond)?;
-    let settled = settle_named(alloc, store, &query.cond)?;
+    let verdicts = settle_named(alloc, store, &query.cond)?;
     let scan = programs.scan(number);
-    let found = open_text(alloc, store.table(), &settled, &query, scan)?;
+    let found = open_text(alloc, store.table(), &verdicts, &query, scan)?;
     write_whole(sink, &found.text)?;
     Ok(StoreServed {
         served: report_of(scan, found.scanned),

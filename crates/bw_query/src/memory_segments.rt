@@ -5,24 +5,36 @@ ghost use Rattle.std.specs.Prelude.{IsOkUnless, None, ℕ, false, true};
 ghost use Rattle.std.specs.List.{list_all};
 ghost use Rattle.bw_model.specs.Fault.{no_memory};
 ghost use Rattle.bw_model.specs.Groups.{together};
+ghost use Rattle.bw_model.specs.Limits.{most_rows};
 ghost use Rattle.bw_model.specs.Total.{item_within};
 ghost use Rattle.bw_sql.specs.Items.{AreOfOneKind};
+ghost use Rattle.bw_answer.specs.Answer.{is_count_all};
+ghost use Rattle.bw_answer.specs.Progress.{query_in};
 ghost use Rattle.bw_file.specs.Blocks.{form_of};
 ghost use Rattle.bw_memory.specs.MemoryTable.{groups_in, layout_of, meaning_numbered, placement_of};
 ghost use Rattle.bw_memory.specs.MemoryTable.{rows_of, schema_of, segments_in};
-ghost use Rattle.bw_memory.specs.Settled.{is_settled};
+ghost use Rattle.bw_memory.specs.Settled.{HaveVerdicts};
+ghost use Rattle.bw_query.specs.Consumers.{IsTextOfRest};
 ghost use Rattle.bw_query.specs.Scan.{IsFor};
 ghost use Rattle.bw_query.specs.SegmentLemmas.{memory_fails};
-ghost use Rattle.bw_query.specs.Segments.{IsTextOf, open_groups};
+ghost use Rattle.bw_query.specs.Segments.{IsTextOf, IsTextOver, open_groups};
+ghost use Rattle.bw_query.specs.Settled.{is_settled};
+ghost use Rattle.bw_query.specs.declared.scan.Scan.TheVariants.{Program};
 
+use crate::answer_consumer::AnswerConsumer;
 use crate::consumer::SegmentConsumer;
+use crate::match_counter::MatchCounter;
 use crate::scan::Scan;
 use crate::segments::Segments;
-use crate::served::TableText;
-use crate::table_text::table_text;
+use crate::served::{NOTHING_SCANNED, TableText};
+use crate::settled::{count_settled, next_open, next_settled, settled_by};
+use crate::table_text::{consumed_text, empty_answer};
+use bw_answer::Answer;
+use bw_cert::Certified;
 use bw_file::in_layout;
 use bw_memory::MemoryTable;
 use bw_model::{Fault, Query, Schema};
+use bw_ranges::Verdict;
 use bw_run::Registers;
 use bw_segment::{CodeLayout, NumberedBlocks, PackedSegment, Placement, Segment};
 use std::alloc::Global;
@@ -38,6 +50,8 @@ struct MemorySegments<'a, L: CodeLayout> {
     next: u32,
     /// From the next segment to the one before this number, none is settled.
     end: u32,
+    /// How many rows of settled segments were counted beforehand.
+    counted: u32,
     /// The placement of the segment before it, which the next one takes over.
     placement: Option<Rc<Placement>>,
     layout: PhantomData<L>,
@@ -47,6 +61,8 @@ struct MemorySegments<'a, L: CodeLayout> {
     ghost most: { end ≤ segments_in table.now },
     ghost open: { (number : ℕ) → next ≤ number → number < end
         → is_settled settled.now number ≡ false } by { Prim.hlevel props },
+    ghost fits: { counted + length (together (open_groups table.now settled.now
+        (segments_in table.now))) ≤ most_rows },
 }
 
 /// Returns the segment of a number, by the placement of another one of the table, if there is one,
@@ -73,90 +89,51 @@ pub(crate) fn next_segment<'a, L: CodeLayout>(
     }
 }
 
-/// Returns whether a segment is settled: the segments are settled by groups of four, and one past
-/// the last group isn't.
-fn is_settled(settled: &[bool], number: u32) -> bool
-    ensures { result ≡ is_settled settled.now number }
-{
-    match settled.get(number as usize / 4) {
-        Some(&settled) => settled,
-        None => false,
-    }
-}
-
-/// Returns the number of the first segment that isn't settled, from this number on; the number of
-/// segments if there is none.
-fn next_open(settled: &[bool], number: u32, segments: u32) -> u32
-    requires { number ≤ segments }
-    ensures from { number ≤ result }
-    ensures within { result ≤ segments }
-    ensures passed { (other : ℕ) → number ≤ other → other < result
-        → is_settled settled.now other ≡ true }
-    ensures unsettled { result < segments → is_settled settled.now result ≡ false }
-{
-    for next in number..segments {
-        if !is_settled(settled, next) {
-            return next;
-        }
-    }
-    segments
-}
-
-/// Returns the number of the first segment that is settled, from this number on; the number of
-/// segments if there is none.
-fn next_settled(settled: &[bool], number: u32, segments: u32) -> u32
-    requires { number ≤ segments }
-    ensures from { number ≤ result }
-    ensures within { result ≤ segments }
-    ensures open { (other : ℕ) → number ≤ other → other < result
-        → is_settled settled.now other ≡ false }
-    ensures some { number < segments → is_settled settled.now number ≡ false → number < result }
-{
-    let known = settled.len().min(segments as usize) * 4;
-    for next in number..known.min(segments as usize) as u32 {
-        if is_settled(settled, next) {
-            return next;
-        }
-    }
-    segments
-}
-
 impl<'a, L: CodeLayout> MemorySegments<'a, L> {
-    /// Passes over settled segments.
-    #[inline(always)]
-    fn advance(&mut self)
-        ensures table { self.new.table ≡ self.old.table }
-        ensures settled { self.new.settled ≡ self.old.settled }
-        ensures from { self.old.next ≤ self.new.next }
-        ensures passed { (number : ℕ) → self.old.next ≤ number → number < self.new.next
-            → is_settled self.old.settled.now number ≡ true }
-        ensures unsettled { self.new.next < segments_in self.old.table.now
-            → is_settled self.old.settled.now self.new.next ≡ false }
-        ensures some { self.new.next < segments_in self.old.table.now
-            → self.new.next < self.new.end }
+    /// Returns the segments of a table that aren't settled. None came so far, and this many rows of
+    /// settled ones were counted.
+    fn new(table: &'a MemoryTable, settled: &'a [bool], counted: u32) -> Self
+        requires layout { form_of (layout_of table.now) ≡ L.packing }
+        requires fits { counted + length (together (open_groups table.now settled.now
+            (segments_in table.now))) ≤ most_rows }
+        ensures table { result.table.now ≡ table.now }
+        ensures settled { result.settled.now ≡ settled.now }
+        ensures counted { result.counted ≡ counted }
+        ensures next { result.next ≡ 0 }
     {
-        if self.next == self.end {
-            self.pass_settled();
+        MemorySegments {
+            table,
+            settled,
+            next: 0,
+            end: 0,
+            counted,
+            placement: None,
+            layout: PhantomData,
         }
     }
 
-    /// Does this where the next segment may be settled, and finds the next one that is. It isn't
-    /// compiled into its caller, which needs it once for many segments.
-    #[inline(never)]
-    fn pass_settled(&mut self)
+    /// Passes over settled segments. Returns whether there is a segment after them. No reference to
+    /// the fields leaves it, so that they stay in registers.
+    #[inline(always)]
+    fn advance(&mut self) -> bool
         ensures table { self.new.table ≡ self.old.table }
         ensures settled { self.new.settled ≡ self.old.settled }
+        ensures counted { self.new.counted ≡ self.old.counted }
         ensures from { self.old.next ≤ self.new.next }
         ensures passed { (number : ℕ) → self.old.next ≤ number → number < self.new.next
             → is_settled self.old.settled.now number ≡ true }
-        ensures unsettled { self.new.next < segments_in self.old.table.now
+        ensures unsettled { result ≡ true
             → is_settled self.old.settled.now self.new.next ≡ false }
-        ensures some { self.new.next < segments_in self.old.table.now
-            → self.new.next < self.new.end }
+        ensures some { result ≡ true → self.new.next < self.new.end }
+        ensures none { result ≡ false → self.new.next ≡ segments_in self.old.table.now }
     {
+        if self.next < self.end {
+            return true;
+        }
         let count = self.table.segments();
         self.next = next_open(self.settled, self.next, count);
         self.end = next_settled(self.settled, self.next, count);
+        self.next < count
     }
 }
 
@@ -165,8 +142,8 @@ impl<'a, L: CodeLayout> Segments<()> for MemorySegments<'a, L> {
 
     ghost stated = { λ segments. length (rows_of segments.table.now) };
 
-    ghost given = { λ segments. length (together (open_groups segments.table.now
-        segments.settled.now segments.next)) };
+    ghost given = { λ segments. segments.counted + length (together (open_groups
+        segments.table.now segments.settled.now segments.next)) };
 
     ghost left = { λ segments. segments_in segments.table.now - segments.next };
 
@@ -194,8 +171,7 @@ impl<'a, L: CodeLayout> Segments<()> for MemorySegments<'a, L> {
         registers: &mut Registers,
         consumer: &mut C,
     ) -> Result<bool, Fault> {
-        self.advance();
-        if self.next == self.table.segments() {
+        if !self.advance() {
             return Ok(false);
         }
         let segment = next_segment::<L>(self.table, &mut self.placement, self.next)?;
@@ -230,13 +206,14 @@ pub(crate) fn memory_text(
     open_text(alloc, table, &[], query, scan)
 }
 
-/// Returns the text of the result of a query over the segments of a table in memory that aren't
-/// settled. The layout is looked up once. Errors: 801 if memory is refused.
+/// Returns the text of the result of a query over a table in memory. Segments are passed over if a
+/// verdict on their group settles that no row matches; or that each does, if a program's matching
+/// rows are only counted. The layout is looked up once. Errors: 801 if memory is refused.
 #[tactic(auto, unfolding(bw_file::specs::Blocks::form_of))]
 pub(crate) fn open_text(
     alloc: Global,
     table: &MemoryTable,
-    settled: &[bool],
+    verdicts: &[Verdict],
     query: &Query,
     scan: &Scan,
 ) -> Result<TableText, Fault>
@@ -245,14 +222,14 @@ pub(crate) fn open_text(
     requires nonempty { 1 ≤ length query.now.items.items }
     requires kinds { AreOfOneKind query.now.items.items }
     requires scan { IsFor (schema_of table.now).columns.items query.now.cond scan.now }
-    ensures text { IfOk result (λ found. IsTextOf (schema_of table.now).columns.items query.now
-        scan.now (λ groups. groups ≡ open_groups table.now settled.now (segments_in table.now))
+    requires verdicts { HaveVerdicts query.now.cond table.now verdicts.now }
+    ensures text { IfOk result (λ found. IsTextOver table.now verdicts.now query.now scan.now
         found.text.items found.scanned) }
     ensures only_oom { IsOkUnless result no_memory }
 {
     in_layout!(
         table.layout(),
-        text_in::<_>(alloc, table, settled, query, scan)
+        text_in::<_>(alloc, table, verdicts, query, scan)
     )
 }
 
@@ -260,7 +237,7 @@ pub(crate) fn open_text(
 fn text_in<L: CodeLayout>(
     alloc: Global,
     table: &MemoryTable,
-    settled: &[bool],
+    verdicts: &[Verdict],
     query: &Query,
     scan: &Scan,
 ) -> Result<TableText, Fault>
@@ -270,18 +247,75 @@ fn text_in<L: CodeLayout>(
     requires nonempty { 1 ≤ length query.now.items.items }
     requires kinds { AreOfOneKind query.now.items.items }
     requires scan { IsFor (schema_of table.now).columns.items query.now.cond scan.now }
-    ensures text { IfOk result (λ found. IsTextOf (schema_of table.now).columns.items query.now
-        scan.now (λ groups. groups ≡ open_groups table.now settled.now (segments_in table.now))
+    requires verdicts { HaveVerdicts query.now.cond table.now verdicts.now }
+    ensures text { IfOk result (λ found. IsTextOver table.now verdicts.now query.now scan.now
         found.text.items found.scanned) }
     ensures only_oom { IsOkUnless result no_memory }
 {
-    let mut segments = MemorySegments::<L> {
-        table,
-        settled,
-        next: 0,
-        end: 0,
-        placement: None,
-        layout: PhantomData,
+    let answer = empty_answer(alloc, table.schema(), table.rows(), query)?;
+    match scan {
+        Scan::Program(certified) if answer.only_counts() => {
+            counted_text::<L>(alloc, table, verdicts, certified, answer)
+        }
+        _ => found_text::<L>(alloc, table, verdicts, scan, answer),
+    }
+}
+
+/// Returns the text of a result that only counts the rows that a program selects. Those of segments
+/// that are passed over are counted beforehand. Errors: 801 if memory is refused.
+fn counted_text<L: CodeLayout>(
+    alloc: Global,
+    table: &MemoryTable,
+    verdicts: &[Verdict],
+    certified: &Certified,
+    answer: Answer<'_>,
+) -> Result<TableText, Fault>
+    requires layout { form_of (layout_of table.now) ≡ L.packing }
+    requires verdicts { HaveVerdicts (query_in answer).cond table.now verdicts.now }
+    requires program { IsFor (schema_of table.now).columns.items (query_in answer).cond
+        (Program certified.now) }
+    requires alone { IsTrue (list_all is_count_all (query_in answer).items.items) }
+    requires fresh { answer.rows ≡ 0 }
+    ensures text { IfOk result
+        (IsTextOfRest answer.entry (Program certified.now) table.now true verdicts.now) }
+    ensures only_oom { IsOkUnless result no_memory }
+{
+    let settled = settled_by(alloc, verdicts, true)?;
+    let counted = count_settled(table, verdicts);
+    let mut segments = MemorySegments::<L>::new(table, &settled, counted.rows);
+    let counter = MatchCounter {
+        certified,
+        answer,
+        rows: counted.rows,
+        matches: counted.matches,
+        scanned: NOTHING_SCANNED,
     };
-    table_text(alloc, &mut segments, &mut (), query, scan)
+    consumed_text(&mut segments, &mut (), counter)
+}
+
+/// Returns the text of a result that consumes the rows that a scan finds. Errors: 801 if memory is
+/// refused.
+fn found_text<L: CodeLayout>(
+    alloc: Global,
+    table: &MemoryTable,
+    verdicts: &[Verdict],
+    scan: &Scan,
+    answer: Answer<'_>,
+) -> Result<TableText, Fault>
+    requires layout { form_of (layout_of table.now) ≡ L.packing }
+    requires verdicts { HaveVerdicts (query_in answer).cond table.now verdicts.now }
+    requires scan { IsFor (schema_of table.now).columns.items (query_in answer).cond scan.now }
+    requires width { answer.width ≡ length (schema_of table.now).columns.items }
+    requires fresh { answer.rows ≡ 0 }
+    ensures text { IfOk result (IsTextOfRest answer.entry scan.now table.now false verdicts.now) }
+    ensures only_oom { IsOkUnless result no_memory }
+{
+    let settled = settled_by(alloc, verdicts, false)?;
+    let mut segments = MemorySegments::<L>::new(table, &settled, 0);
+    let consumer = AnswerConsumer {
+        scan,
+        answer,
+        scanned: NOTHING_SCANNED,
+    };
+    consumed_text(&mut segments, &mut (), consumer)
 }

@@ -22,7 +22,7 @@ pub(crate) trait Segments<I> {
     /// How many rows it has, or states.
     ghost stated: { Self → ℕ };
 
-    /// How many rows came so far.
+    /// How many rows came so far, with those that were counted beforehand.
     ghost given: { Self → ℕ };
 
     /// At least as many segments are to come.
@@ -32,7 +32,7 @@ pub(crate) trait Segments<I> {
     /// came.
     ghost gave: { Self → I → List (List (List Value)) → Self → I → Type 0 };
 
-    /// They came, and are all groups of the table.
+    /// They came, and are all groups of the table that aren't left out.
     ghost ended: { Self → I → List (List (List Value)) → Self → I → Type 0 };
 
     /// From the first state to the second, there was an error in place of all groups.
@@ -46,7 +46,8 @@ pub(crate) trait Segments<I> {
     fn rows(&self) -> u32
         ensures { result ≡ stated self.now };
 
-    /// Hands the next segment to a consumer, which must have consumed the rows that came so far.
+    /// Hands the next segment to a consumer, which must have consumed as many rows as came so
+    /// far.
     /// Returns whether there was one: after the last segment the consumer stays as it was.
     fn take_next<C: SegmentConsumer>(
         &mut self,

@@ -24,7 +24,8 @@ pub(crate) const NOTHING_SCANNED: Scanned = Scanned {
 
 /// How a query over a table was served whose columns are read when they are needed: the scan
 /// statistics over the segments that were scanned, and the number of those that weren't, since the
-/// ranges of their values settle that the condition is TRUE on none of their rows.
+/// ranges of their values settle that the condition is TRUE on none of their rows; or on each, if
+/// a program only counts rows.
 #[derive(Clone, Copy, Debug, PartialEq, Eq)]
 pub struct StoreServed {
     pub served: Served,

@@ -5,12 +5,13 @@ ghost use Rattle.bw_io.specs.Source.{is_read_fault};
 ghost use Rattle.bw_file.specs.TableReading.{IsTableFault};
 ghost use Rattle.bw_memory.specs.ColumnStore.{HasFirstFault, HasRows};
 ghost use Rattle.bw_memory.specs.MemoryTable.{rows_of, schema_of};
-ghost use Rattle.bw_memory.specs.Settled.{AreWithoutMatch, HasNoneSettled};
+ghost use Rattle.bw_memory.specs.Settled.{HasNoVerdicts, HaveVerdicts};
 ghost use Rattle.bw_query.specs.NamedColumns.{is_named_by};
 
 use crate::named_columns::{cond_names, is_named};
 use bw_memory::ColumnStore;
 use bw_model::{Cond, Fault, Query};
+use bw_ranges::Verdict;
 use std::alloc::Global;
 
 /// Reads the columns that a query names, unless they are in memory. Errors: those of
@@ -40,21 +41,17 @@ pub(crate) fn read_named<C: ColumnStore>(
     Ok(())
 }
 
-/// Returns of which groups of four segments a condition is TRUE on no row, as far as the ranges of
-/// the columns that it names tell, as [`ColumnStore::settle`] does. Errors: 801 if memory is refused.
+/// Returns what the ranges of the columns that a condition names tell of it, for each group of
+/// segments, as [`ColumnStore::settle`] does. Errors: 801 if memory is refused.
 pub(crate) fn settle_named<C: ColumnStore>(
     alloc: Global,
-    store: &mut C,
+    store: &C,
     cond: &Cond,
-) -> Result<Vec<bool>, Fault>
-    ensures settled { IfOk result (λ settled.
-        AreWithoutMatch cond.now (C.table store.old) settled.items) }
-    ensures in_memory { IfOk result (λ settled.
-        HasNoneSettled (C.source store.old) settled.items) }
-    ensures table { C.table store.new ≡ C.table store.old }
-    ensures source { C.source store.new ≡ C.source store.old }
-    ensures same { C.is_lost store.new ≡ C.is_lost store.old }
-    ensures failures { C.failures store.new ≡ C.failures store.old }
+) -> Result<Vec<Verdict>, Fault>
+    ensures verdicts { IfOk result (λ verdicts.
+        HaveVerdicts cond.now (C.table store.now) verdicts.items) }
+    ensures in_memory { IfOk result (λ verdicts.
+        HasNoVerdicts (C.source store.now) verdicts.items) }
     ensures only_oom { IsOkUnless result no_memory }
 {
     let mut columns = Vec::new(alloc);

@@ -19,7 +19,7 @@ pub trait Listener {
         ensures { Hears (told self.old) (told self.new) (answered served.now ∷ []) };
 
     /// This many segments weren't scanned for the statement that was run, since the ranges of their
-    /// values settle that none of their rows match. It isn't called if there are none.
+    /// values settle how many of their rows match. It isn't called if there are none.
     fn note_settled(&mut self, segments: u32)
         ensures { Hears (told self.old) (told self.new) (settled segments ∷ []) };
 

@@ -1,13 +1,10 @@
--- The ranges are those of the segments so far, one for each group of four.
-use Rattle.std.proofs.Common.{◌≡◌, ◌+◌, ◌/◌, ◌<◌, ℕ, length, slice_index_or}
-use Rattle.bw_ranges.specs.ColumnRange.{only_null}
-use Rattle.bw_memory.specs.MemoryTable.{meaning_numbered, segments_in}
-use Rattle.bw_memory.specs.Ranges.{HasRange}
+-- The ranges are those of the groups so far.
+use Rattle.std.proofs.Common.{◌≡◌, length}
+use Rattle.bw_memory.specs.Ranges.{AreRangesOf}
 use Rattle.bw_memory.proofs.column_ranges.column_ranges.Given as goal
 
-abbrev pub invariant-loop-number : goal.invariant-loop-number
-invariant-loop-number g l = record {
-  each : length l.ranges.items ≡ (l.number + 3) / 4;
-  ranges : (number : ℕ) → number < l.number → HasRange (slice_index_or l.ranges.items (number / 4) only_null) l.col (meaning_numbered l.table number).rows;
-  end : l.number-end ≡ segments_in l.table;
+abbrev pub invariant-loop-group : goal.invariant-loop-group
+invariant-loop-group g l = record {
+  each : length l.ranges.items ≡ l.group;
+  ranges : AreRangesOf 4 l.table l.col l.ranges.items;
 }

@@ -5,15 +5,16 @@ use Rattle.bw_io.proofs.SinkLemmas.{no_write_fault}
 use Rattle.bw_model.specs.Fault.{is_memory}
 use Rattle.bw_memory.specs.ColumnStore.{ColumnSource}
 use Rattle.bw_memory.specs.MemoryTable.{schema_of, segments_in}
-use Rattle.bw_memory.specs.Settled.{HasNoneSettled}
+use Rattle.bw_memory.specs.Settled.{HasNoVerdicts}
 use Rattle.bw_sql.specs.QueryShape.{query_shape}
 use Rattle.bw_query.specs.ProgramChoice.{IsServedAmong}
-use Rattle.bw_query.specs.Segments.{open_groups}
-use Rattle.bw_query.specs.Served.{report_of}
+use Rattle.bw_query.specs.Segments.{groups_left}
+use Rattle.bw_query.specs.Served.{finder_of, report_of}
+use Rattle.bw_query.specs.Settled.{only_counts}
 use Rattle.bw_query.specs.TableAnswer.{by_statement}
 use Rattle.bw_query.specs.declared.served.StoreServed.{StoreServed}
 use Rattle.bw_query.proofs.CacheLemmas.{serves_among}
-use Rattle.bw_query.proofs.StoreLemmas.{open_counts, open_settled, store_memory, store_served, store_text, text_here}
+use Rattle.bw_query.proofs.StoreLemmas.{open_settled, store_memory, store_served, store_text, text_here}
 use Rattle.bw_query.proofs.TableExits.{memory_output, memory_writes_nothing, refused, table_writes_nothing}
 use Rattle.bw_query.proofs.TableExits.{statement_writes_nothing, went}
 use Rattle.bw_query.proofs.memory_calls.answer_with_programs.Goals as goal
@@ -46,83 +47,80 @@ returns-in_err-found-clause-answer g c =
     rw (err_passed_on _ c.from_residual-in_err-found.ensures.1)
     (Err fault, store_memory (by_statement None c.args.sql.now) _ _ fault (ap is_memory memory), refused StoreServed _ _ (memory_writes_nothing fault memory))
 
-pub returns-in_err-settled-clause-answer : goal.returns-in_err-settled-clause-answer
-returns-in_err-settled-clause-answer g c =
-    let fault = c.in_err-settled.field-0.0 in
-    let memory = c.in_err-settled.ensures.only_oom in
-    rw (err_passed_on _ c.from_residual-in_err-settled.ensures.1)
+pub returns-in_err-verdicts-clause-answer : goal.returns-in_err-verdicts-clause-answer
+returns-in_err-verdicts-clause-answer g c =
+    let fault = c.in_err-verdicts.field-0.0 in
+    let memory = c.in_err-verdicts.ensures.only_oom in
+    rw (err_passed_on _ c.from_residual-in_err-verdicts.ensures.1)
     (Err fault, store_memory (by_statement None c.args.sql.now) _ _ fault (ap is_memory memory), refused StoreServed _ _ (memory_writes_nothing fault memory))
 
 pub returns-in_err-write_whole-clause-answer : goal.returns-in_err-write_whole-clause-answer
 returns-in_err-write_whole-clause-answer g c =
     let table = g.C.ColumnStore.table c.read_named.new.store in
-    let settled = c.in_ok-settled.settled.items in
+    let verdicts = c.in_ok-verdicts.verdicts.items in
     let query = c.in_ok-query.query in
     let scan = c.scan-scan.result.now in
     let found = c.in_ok-found.found in
     let read = rw c.table.ensures.table at (rw c.schema.ensures at c.in_ok-query.ensures.read) in
-    let over = text_here table c.table-3.result.now settled c.deref.result.now query scan found.text.items found.scanned (c.table-3.ensures.table ∙ c.in_ok-settled.ensures.table) c.deref.ensures.value c.in_ok-found.ensures.text in
+    let over = text_here table verdicts query scan c.table-3.result.now c.deref.result.now found.text.items found.scanned c.table-3.ensures.table c.deref.ensures.value c.in_ok-found.ensures.text in
     let goes = rw c.deref-2.ensures.value at c.in_err-write_whole.ensures in
     rw (err_passed_on _ c.from_residual-in_err-write_whole.ensures.1) (
       _,
-      store_text (by_statement None c.args.sql.now) _ _ table settled query c.in_ok-read_named.ensures.schema (read, tt) c.in_ok-read_named.ensures.rows c.in_ok-settled.ensures.settled
-          scan found.text.items found.scanned over,
+      store_text (by_statement None c.args.sql.now) _ _ table verdicts query c.in_ok-read_named.ensures.schema (read, tt) c.in_ok-read_named.ensures.rows scan found.text.items found.scanned over,
       went StoreServed (g.K.Sink.state c.args.sink.now) (g.K.Sink.state c.write_whole.new.sink) found.text.items (Err c.in_err-write_whole.field-0.0) goes,
     )
 
 pub returns-clause-answer : goal.returns-clause-answer
 returns-clause-answer g c =
     let table = g.C.ColumnStore.table c.read_named.new.store in
-    let settled = c.in_ok-settled.settled.items in
+    let verdicts = c.in_ok-verdicts.verdicts.items in
     let query = c.in_ok-query.query in
     let scan = c.scan-scan.result.now in
     let found = c.in_ok-found.found in
     let read = rw c.table.ensures.table at (rw c.schema.ensures at c.in_ok-query.ensures.read) in
-    let over = text_here table c.table-3.result.now settled c.deref.result.now query scan found.text.items found.scanned (c.table-3.ensures.table ∙ c.in_ok-settled.ensures.table) c.deref.ensures.value c.in_ok-found.ensures.text in
+    let over = text_here table verdicts query scan c.table-3.result.now c.deref.result.now found.text.items found.scanned c.table-3.ensures.table c.deref.ensures.value c.in_ok-found.ensures.text in
     let goes = rw c.deref-2.ensures.value at c.in_ok-write_whole.ensures in (
       _,
-      store_text (by_statement None c.args.sql.now) _ _ table settled query c.in_ok-read_named.ensures.schema (read, tt) c.in_ok-read_named.ensures.rows c.in_ok-settled.ensures.settled
-          scan found.text.items found.scanned over,
+      store_text (by_statement None c.args.sql.now) _ _ table verdicts query c.in_ok-read_named.ensures.schema (read, tt) c.in_ok-read_named.ensures.rows scan found.text.items found.scanned over,
       went StoreServed _ _ found.text.items (Ok _) goes,
     )
 
 pub overflow_sub-result : goal.overflow_sub-result
 overflow_sub-result g c =
     let table = g.C.ColumnStore.table c.read_named.new.store in
-    let settled = c.in_ok-settled.settled.items in
+    let verdicts = c.in_ok-verdicts.verdicts.items in
     let query = c.in_ok-query.query in
     let scan = c.scan-scan.result.now in
     let found = c.in_ok-found.found in
-    let same = c.table-4.ensures.table ∙ c.in_ok-settled.ensures.table in
-    let over = text_here table c.table-3.result.now settled c.deref.result.now query scan found.text.items found.scanned (c.table-3.ensures.table ∙ c.in_ok-settled.ensures.table) c.deref.ensures.value c.in_ok-found.ensures.text in
-    omega (arith, c.segments.ensures, ap segments_in same, (open_settled table settled query scan found.text.items found.scanned over c.in_ok-settled.ensures.settled).0)
+    let same = c.table-4.ensures.table in
+    let over = text_here table verdicts query scan c.table-3.result.now c.deref.result.now found.text.items found.scanned c.table-3.ensures.table c.deref.ensures.value c.in_ok-found.ensures.text in
+    omega (arith, c.segments.ensures, ap segments_in same, (open_settled table verdicts query scan found.text.items found.scanned over c.in_ok-verdicts.ensures.verdicts).0)
 
 pub returns-clause-served : goal.returns-clause-served
 returns-clause-served g c =
     let table = g.C.ColumnStore.table c.read_named.new.store in
-    let settled = c.in_ok-settled.settled.items in
+    let verdicts = c.in_ok-verdicts.verdicts.items in
     let query = c.in_ok-query.query in
     let scan = c.scan-scan.result.now in
     let found = c.in_ok-found.found in
-    let same = c.table-4.ensures.table ∙ c.in_ok-settled.ensures.table in
+    let same = c.table-4.ensures.table in
     let read = rw c.table.ensures.table at (rw c.schema.ensures at c.in_ok-query.ensures.read) in
-    let over = text_here table c.table-3.result.now settled c.deref.result.now query scan found.text.items found.scanned (c.table-3.ensures.table ∙ c.in_ok-settled.ensures.table) c.deref.ensures.value c.in_ok-found.ensures.text in
+    let over = text_here table verdicts query scan c.table-3.result.now c.deref.result.now found.text.items found.scanned c.table-3.ensures.table c.deref.ensures.value c.in_ok-found.ensures.text in
     let chosen = c.scan-scan.ensures.chosen (schema_of table).columns.items query.cond (rw c.table-2.ensures.table at c.in_ok-number.ensures.found) in
     let goes = rw c.deref-2.ensures.value at c.in_ok-write_whole.ensures in
-    let those = open_groups table settled (segments_in table) in
-    let counts = open_counts table settled query scan found.text.items found.scanned over in
-    let none = subst (λ (source : ColumnSource). HasNoneSettled source settled) c.in_ok-read_named.ensures.source c.in_ok-settled.ensures.in_memory in
+    let those = groups_left table (only_counts query (finder_of scan)) verdicts in
+    let none = subst (λ (source : ColumnSource). HasNoVerdicts source verdicts) c.in_ok-read_named.ensures.source c.in_ok-verdicts.ensures.in_memory in
     let left : c.segments.result - found.scanned.segments ≡ segments_in table - found.scanned.segments = ap (λ (count : ℕ). count - found.scanned.segments) (c.segments.ensures ∙ ap segments_in same) in
     rw c.report_of.ensures
-    (store_served (by_statement None c.args.sql.now) _ _ table settled query c.in_ok-read_named.ensures.schema (read, tt) c.in_ok-read_named.ensures.rows c.in_ok-settled.ensures.settled
-    _ _ _ scan found.text.items found.scanned _ over goes.0 none left
+    (store_served (by_statement None c.args.sql.now) _ _ table verdicts query c.in_ok-read_named.ensures.schema (read, tt) c.in_ok-read_named.ensures.rows c.in_ok-verdicts.ensures.verdicts
+    _ _ _ scan found.text.items found.scanned _ over goes.0 none left refl
     (subst (λ (files : List (List ℕ)). IsServedAmong files (schema_of table) query those (report_of scan found.scanned)) c.in_ok-number.ensures.files
-    (serves_among _ (schema_of table) query those scan found.scanned chosen counts)))
+    (serves_among _ (schema_of table) query those scan found.scanned chosen over.counts)))
 
 pub open_text-requires-clause-scan : goal.open_text-requires-clause-scan
 open_text-requires-clause-scan g c =
     let found = c.in_ok-number.ensures.found in
-    rw (c.table-3.ensures.table, c.in_ok-settled.ensures.table)
+    rw c.table-3.ensures.table
     (c.scan-scan.ensures.certified (schema_of (g.C.ColumnStore.table c.read_named.new.store)).columns.items c.in_ok-query.query.cond (rw c.table-2.ensures.table at found))
 
 pub returns-in_err-query-clause-accepted : goal.returns-in_err-query-clause-accepted
@@ -139,9 +137,9 @@ pub returns-in_err-number-clause-accepted : goal.returns-in_err-number-clause-ac
 returns-in_err-number-clause-accepted g c =
     rw (err_passed_on _ c.from_residual-in_err-number.ensures.1) (λ query asks. inl (memory_output c.in_err-number.field-0.0 (ap is_memory c.in_err-number.ensures.only_oom)))
 
-pub returns-in_err-settled-clause-accepted : goal.returns-in_err-settled-clause-accepted
-returns-in_err-settled-clause-accepted g c =
-    rw (err_passed_on _ c.from_residual-in_err-settled.ensures.1) (λ query asks. inl (memory_output c.in_err-settled.field-0.0 (ap is_memory c.in_err-settled.ensures.only_oom)))
+pub returns-in_err-verdicts-clause-accepted : goal.returns-in_err-verdicts-clause-accepted
+returns-in_err-verdicts-clause-accepted g c =
+    rw (err_passed_on _ c.from_residual-in_err-verdicts.ensures.1) (λ query asks. inl (memory_output c.in_err-verdicts.field-0.0 (ap is_memory c.in_err-verdicts.ensures.only_oom)))
 
 pub returns-in_err-found-clause-accepted : goal.returns-in_err-found-clause-accepted
 returns-in_err-found-clause-accepted g c =
@@ -156,14 +154,17 @@ find_or_add-requires-clause-serves g c = rw (c.table-2.ensures.table, c.in_ok-re
 pub returns-in_err-number-clause-serves : goal.returns-in_err-number-clause-serves
 returns-in_err-number-clause-serves g c = rw c.table-2.ensures.table at c.in_err-number.ensures.serves
 
-pub returns-in_err-settled-clause-serves : goal.returns-in_err-settled-clause-serves
-returns-in_err-settled-clause-serves g c = rw c.in_err-settled.ensures.table (rw c.table-2.ensures.table at c.in_ok-number.ensures.serves)
+pub returns-in_err-verdicts-clause-serves : goal.returns-in_err-verdicts-clause-serves
+returns-in_err-verdicts-clause-serves g c = rw c.table-2.ensures.table at c.in_ok-number.ensures.serves
 
 pub returns-in_err-found-clause-serves : goal.returns-in_err-found-clause-serves
-returns-in_err-found-clause-serves g c = rw c.in_ok-settled.ensures.table (rw c.table-2.ensures.table at c.in_ok-number.ensures.serves)
+returns-in_err-found-clause-serves g c = rw c.table-2.ensures.table at c.in_ok-number.ensures.serves
 
 pub returns-in_err-write_whole-clause-serves : goal.returns-in_err-write_whole-clause-serves
-returns-in_err-write_whole-clause-serves g c = rw c.in_ok-settled.ensures.table (rw c.table-2.ensures.table at c.in_ok-number.ensures.serves)
+returns-in_err-write_whole-clause-serves g c = rw c.table-2.ensures.table at c.in_ok-number.ensures.serves
 
 pub returns-clause-serves : goal.returns-clause-serves
-returns-clause-serves g c = rw c.in_ok-settled.ensures.table (rw c.table-2.ensures.table at c.in_ok-number.ensures.serves)
+returns-clause-serves g c = rw c.table-2.ensures.table at c.in_ok-number.ensures.serves
+
+pub open_text-requires-clause-verdicts : goal.open_text-requires-clause-verdicts
+open_text-requires-clause-verdicts g c = rw (c.table-3.ensures.table, c.deref.ensures.value) c.in_ok-verdicts.ensures.verdicts

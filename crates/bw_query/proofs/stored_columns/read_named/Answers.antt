@@ -1,5 +1,5 @@
 -- One column more is in memory, or isn't needed.
-use Rattle.std.proofs.Common.{◌≡◌, ◌∙◌, ◌≤◌, sym, refl, arith, length}
+use Rattle.std.proofs.Common.{◌∙◌, ◌≤◌, sym, refl, arith, length}
 use Rattle.bw_model.proofs.ErrLemmas.{err_passed_on}
 use Rattle.bw_memory.specs.ColumnStore.{columns_of}
 use Rattle.bw_query.specs.NamedColumns.{is_named_by}

@@ -1,5 +1,5 @@
 -- Each group is consumed after those before it.
-use Rattle.std.proofs.Common.{◌∙◌, [], arith, refl, sym, subst}
+use Rattle.std.proofs.Common.{[], refl, sym, subst}
 use Rattle.bw_model.specs.declared.schema.Schema.{Schema}
 use Rattle.bw_query.proofs.table_text.consumed_text.Goals as goal
 
@@ -10,8 +10,8 @@ loop-consumer-init g c = record {
   over = c.requires.over;
   fits = c.requires.fits;
   same = refl;
-  rows = c.requires.rows ∙ sym c.requires.none;
-  within_limit = omega (arith, c.requires.none);
+  rows = c.requires.rows;
+  within_limit = c.requires.capacity;
 }
 
 pub take_next-requires-clause-began : goal.take_next-requires-clause-began

@@ -14,16 +14,16 @@ use Rattle.bw_query.specs.declared.scan.Scan.TheVariants.{Program}
 use Rattle.bw_query.proofs.ScannedLemmas.{few_more, scanned_more}
 use Rattle.bw_query.proofs.match_counter.MatchCounterSegmentConsumer.take.Goals as goal
 
--- the rows of groups and of one more, and those that match
-rows_counted : (groups : List (List (List Value))) (group : List (List Value)) (rows more : ℕ) → length (together groups) ≡ rows → more ≡ length group
-    → length (together (groups ++ group ∷ [])) ≡ rows + more
-rows_counted groups group rows more is next =
+-- the rows of groups and of one more, and those that match, after some that were counted before
+rows_counted : (groups : List (List (List Value))) (group : List (List Value)) (before rows more : ℕ) → before + length (together groups) ≡ rows → more ≡ length group
+    → before + length (together (groups ++ group ∷ [])) ≡ rows + more
+rows_counted groups group before rows more is next =
     let all = ap length (together_more groups group) ∙ length-append (together groups) group in
     omega (arith, all, is, next)
 
-matches_counted : (cond : Cond) (groups : List (List (List Value))) (group : List (List Value)) (matches more : ℕ) → length (matching_rows cond (together groups)) ≡ matches → more ≡ length (matching_rows cond group)
-    → length (matching_rows cond (together (groups ++ group ∷ []))) ≡ matches + more
-matches_counted cond groups group matches more is next =
+matches_counted : (cond : Cond) (groups : List (List (List Value))) (group : List (List Value)) (before matches more : ℕ) → before + length (matching_rows cond (together groups)) ≡ matches
+    → more ≡ length (matching_rows cond group) → before + length (matching_rows cond (together (groups ++ group ∷ []))) ≡ matches + more
+matches_counted cond groups group before matches more is next =
     let apart = ap (λ (rows : List (List Value)). length (matching_rows cond rows)) (together_more groups group)
     ∙ ap length (filter-append (is_match cond) (together groups) group) ∙ length-append (matching_rows cond (together groups)) (matching_rows cond group) in
     omega (arith, apart, is, next)
@@ -56,8 +56,8 @@ returns-clause-consumes g c =
       over = λ start groups led. record {
         program = led.program;
         answer = led.answer;
-        rows = rows_counted groups group self.rows c.rows_in.result led.rows c.rows_in.ensures.count;
-        matches = matches_counted (query_in start.answer).cond groups group self.matches c.count_in-found.result.0 led.matches (found.matches ∙ ap (λ (answer : Answer). length (matching_rows (query_in answer).cond group)) led.answer);
+        rows = rows_counted groups group start.rows self.rows c.rows_in.result led.rows c.rows_in.ensures.count;
+        matches = matches_counted (query_in start.answer).cond groups group start.matches self.matches c.count_in-found.result.0 led.matches (found.matches ∙ ap (λ (answer : Answer). length (matching_rows (query_in answer).cond group)) led.answer);
         counts = scanned_more columns (Program start.certified.now) (Program self.certified.now) groups group c.count_in-found.result.1 self.scanned c.plus-self.result (ap Program led.program) led.counts found.run plus.segments plus.loads plus.skips;
       };
     }

@@ -1,8 +1,8 @@
 -- The segment that was found isn't the first one, if that one isn't settled.
 use Rattle.std.proofs.Common.{◌≡◌, ◌∙◌, sym, ap, inl, inr, true, false, arith}
 use Rattle.std.proofs.lemmas.Bool.{cases_lt}
-use Rattle.bw_memory.specs.Settled.{is_settled}
-use Rattle.bw_query.proofs.memory_segments.next_settled.Goals as goal
+use Rattle.bw_query.specs.Settled.{is_settled}
+use Rattle.bw_query.proofs.settled.next_settled.Goals as goal
 
 pub returns-then-is_settled-clause-some : goal.returns-then-is_settled-clause-some
 returns-then-is_settled-clause-some c = λ lt un. elim (cases_lt c.args.number c.loop-next.next) [

@@ -1,6 +1,6 @@
 use Rattle.std.proofs.Common.{◌≡◌, ◌<◌, ◌≤◌, ℕ, true}
-use Rattle.bw_memory.specs.Settled.{is_settled}
-use Rattle.bw_query.proofs.memory_segments.next_open.Given as goal
+use Rattle.bw_query.specs.Settled.{is_settled}
+use Rattle.bw_query.proofs.settled.next_open.Given as goal
 
 -- the segments so far are settled
 abbrev pub invariant-loop-next : goal.invariant-loop-next
