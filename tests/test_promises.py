@@ -177,7 +177,8 @@ def misfit(crate, text):
 
 def why_not(edit):
     """Returns why an edit can't be applied to its crate, if it can't: each `old:` text must occur
-    once in its file, after the edit's earlier pairs, and the calls of a `new:` text must exist."""
+    once in its file, after the edit's earlier pairs, the calls of a `new:` text must exist, and
+    no text has two lines."""
     texts, path, old, pairs = {}, None, None, 0
     for line in edit.read_text(encoding="utf-8").split("\n"):
         if line.startswith("file: "):
@@ -198,6 +199,8 @@ def why_not(edit):
                 return f"a `new:` text calls {misfit(edit.parent.parent.name, line[4:])}"
             texts[path] = texts[path].replace(old, line[4:].removeprefix(" "))
             old, pairs = None, pairs + 1
+        elif line:
+            return f"nothing reads its line `{line.strip()}`"
     return None if pairs else "it changes nothing"
 
 
