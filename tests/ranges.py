@@ -17,7 +17,7 @@ import sys
 import tempfile
 from collections import Counter
 from dataclasses import dataclass
-from typing import Any, Callable, Iterator, Optional, Sequence
+from typing import Any, Callable, Iterable, Iterator, Optional, Sequence
 
 from tests import drawn_programs, support
 from tests.drawn import COMPARE, Bounds
@@ -71,10 +71,9 @@ class Table:
     def csv(self) -> str:
         return lines_of([list(self.columns), *zip(*self.values.values())])
 
-    def segments_of(self, groups: set[int]) -> int:
-        """Returns how many segments these groups have."""
-        segments = -(-self.rows // SEGMENT)
-        return sum(min(GROUP // SEGMENT, segments - each * GROUP // SEGMENT) for each in groups)
+    def group_sizes(self) -> dict[int, int]:
+        """Returns how many rows each group has."""
+        return {at // GROUP: min(GROUP, self.rows - at) for at in range(0, self.rows, GROUP)}
 
     def near(self, name: str) -> list[int]:
         """Returns the least and the greatest number of each group, and those at the borders of
@@ -323,16 +322,27 @@ class Base:
         heading = list(self.table.columns) if items == "*" else items.split(", ")
         return lines_of([heading, *self.database.execute(as_sqlite(sql))])
 
-    def groups(self, sql: str) -> set[int]:
-        """Returns the groups that have rows which a statement selects."""
+    def selected(self, sql: str) -> dict[int, int]:
+        """Returns how many rows a statement selects in each group, but for those without any."""
         condition = as_sqlite(sql).partition(" FROM ")[2]
-        return {each for each, in self.database.execute(
-            f"SELECT DISTINCT (rowid - 1) / {GROUP} FROM {condition}")}
+        return dict(self.database.execute(
+            f"SELECT (rowid - 1) / {GROUP}, COUNT(*) FROM {condition} GROUP BY 1"))
 
 
 def as_sqlite(sql: str) -> str:
     """Returns a statement as SQLite has it."""
     return sql.replace("UNKNOWN", "NULL")
+
+
+def only_counts(sql: str) -> bool:
+    """Returns whether a statement only counts the rows that it selects."""
+    items = sql[len("SELECT "):].partition(" FROM ")[0]
+    return set(items.split(", ")) == {"COUNT(*)"}
+
+
+def segments_of(sizes: Iterable[int]) -> int:
+    """Returns how many segments groups of so many rows have."""
+    return sum(-(-size // SEGMENT) for size in sizes)
 
 
 def loaded(table: Table, folder: pathlib.Path) -> list[pathlib.Path]:
@@ -372,12 +382,14 @@ class Comparison:
         """Returns the first difference in the answers of a table, or nothing."""
         base, idle, paths = Base(table), 0, loaded(table, self.folder)
         wanted = {sql: base.answer(sql) for sql in asked}
+        sizes = table.group_sizes()
         for sql in asked:
-            all_groups = set(range(-(-table.rows // GROUP)))
-            groups = base.groups(sql)
-            idle += table.segments_of(all_groups - groups)
-            self.counts["segments"] += table.segments_of(all_groups)
-            self.counts["none" if not groups else "some" if groups < all_groups else "every"] += 1
+            selected, counts = base.selected(sql), only_counts(sql)
+            idle += segments_of(size for each, size in sizes.items() if each not in selected
+                                or counts and selected[each] == size)
+            self.counts["segments"] += segments_of(sizes.values())
+            self.counts["none" if not selected else
+                        "some" if len(selected) < len(sizes) else "every"] += 1
         base.database.close()
         self.counts.update(asked=len(asked), idle=idle)
         for path in paths:
@@ -389,8 +401,8 @@ class Comparison:
                                  f"answers\n{said}sqlite3 answers\n{wanted[sql]}")
             settled = sum(map(int, SETTLED.findall(told)))
             if not STATS.fullmatch(told) or settled > idle:
-                return shown(table, path, asked, f"settled {settled} of {idle} segments that have "
-                                                 f"no such rows\n{told}")
+                return shown(table, path, asked, f"settled {settled} of {idle} segments whose rows "
+                                                 f"needn't be read\n{told}")
             self.counts.update(f"by {each}" for each in SERVED.findall(told))
             self.counts["settled"] += settled
         return ""
@@ -403,7 +415,8 @@ class Comparison:
                 f"{counts['some']:,} of some, {counts['every']:,} of every one.\nIn four files "
                 f"{counts['by program']:,} were served by programs, {counts['by rows']:,} by rows. "
                 f"Of {2 * counts['segments']:,} segments by columns {2 * counts['idle']:,} are in "
-                f"groups without such rows, {counts['settled']:,} were settled.")
+                f"groups without such rows, or are counted whole; {counts['settled']:,} were "
+                "settled.")
 
 
 def shown(table: Table, path: pathlib.Path, asked: Sequence[str], how: str) -> str:

@@ -107,7 +107,7 @@ class Answers(Loaded):
             self.assertEqual(*said)
             self.assertIn(f"# bytes {by_columns.stat().st_size}\n", bw("info", by_columns).out)
             text = f"{COUNT};\nSELECT q FROM t;\nSELECT MAX(x) FROM t WHERE b < 0;\n"
-            for options in ((), ("--stats",), ("--explain",)):
+            for options in ((), ("--explain",)):
                 self.assertEqual(bw("session", *options, by_rows, given=text),
                                  bw("session", *options, by_columns, given=text))
             for sql in ("SELECT q FROM t", "SELECT COUNT(*) FROM u", "SELECT a FROM t WHERE",

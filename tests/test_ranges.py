@@ -3,6 +3,7 @@ compares with table files and sqlite3, what it draws, and how it shows a differe
 import contextlib
 import io
 import random
+import re
 import unittest.mock
 from collections import Counter
 
@@ -26,6 +27,61 @@ class Sample(support.TestCase):
         self.assertGreater(counts["by rows"], 0)
         # in both files by columns, most segments of groups without selected rows
         self.assertGreater(counts["settled"], 1.5 * counts["idle"])
+
+
+class Settled(support.TestCase):
+    """Which segments are settled, exactly, and what says so."""
+
+    def settled(self, values, sql, *options):
+        """Returns what sessions over a table of column `a` say beside how a statement is served."""
+        table = ranges.Table({"a": (0, max(values), False)}, {"a": values}, len(values))
+        base, found = ranges.Base(table), set()
+        for path in ranges.loaded(table, self.new_folder())[2:]:
+            done = support.bw("session", *options, path, given=sql)
+            self.assertEqual(done.out, base.answer(sql) + "\n")
+            found.add(re.sub(r"^served .*\n", "", done.err))
+        base.database.close()
+        self.assertEqual(len(found), 1, found)
+        return found.pop()
+
+    def test_words(self):
+        rising, asked = list(range(2 * ranges.GROUP)), "SELECT COUNT(*) FROM t WHERE a < 9"
+        self.assertEqual(self.settled(rising, asked, "--explain"), "")
+        self.assertEqual(self.settled(rising, asked, "--stats"), "settled 4 segments\n")
+        self.assertEqual(self.settled(rising, asked, "--stats", "--explain"), (
+            "settled 4 segments\n    the ranges of their values show that none of their rows "
+            "match, or, if a program only counts rows, that all do\n"))
+
+    def test_long_tables(self):
+        """Of 35 groups, the last of one segment, 32 are in wide groups."""
+        rising = list(range(34 * ranges.GROUP + 300))
+        for sql, settled in {
+                "SELECT COUNT(*) FROM t WHERE a < 9": 133,
+                "SELECT a FROM t WHERE a < 9": 133,
+                "SELECT COUNT(*) FROM t WHERE a >= 10000": 133,
+                "SELECT a FROM t WHERE a >= 69000": 132,
+                "SELECT COUNT(*) FROM t WHERE a >= 0": 137,
+                "SELECT COUNT(*) FROM t": 137}.items():
+            self.assertEqual(self.settled(rising, sql, "--stats"), f"settled {settled} segments\n")
+        self.assertEqual(self.settled(rising, "SELECT MAX(a) FROM t", "--stats"), "")
+
+    def test_columns_without_order(self):
+        """In each group of many there are nearly all values."""
+        mixed = [number * 397 % 1009 for number in range(33 * ranges.GROUP)]
+        self.assertEqual(self.settled(mixed, "SELECT COUNT(*) FROM t WHERE a > 1008", "--stats"),
+                         "settled 132 segments\n")
+        self.assertEqual(self.settled(mixed, "SELECT COUNT(*) FROM t WHERE a = 1008", "--stats"),
+                         "")
+
+    def test_first_hundred_groups(self):
+        """After them no group is asked about if none of them was settled."""
+        spread, one = [0, 1000] * (ranges.GROUP // 2), [1000] * ranges.GROUP
+        for groups, told in (
+                ([spread] * 100 + [one] * 10, ""),
+                ([spread] * 50 + [one] + [spread] * 49 + [one] * 10, "settled 44 segments\n")):
+            values = [value for group in groups for value in group]
+            self.assertEqual(
+                self.settled(values, "SELECT COUNT(*) FROM t WHERE a = 500", "--stats"), told)
 
 
 class Drawn(support.TestCase):
@@ -91,4 +147,4 @@ class Differences(support.TestCase):
             return found, told + "settled 1000 segments\n" * (path.name == "sliced_columns.bw")
 
         self.assertRegex(self.told(changed), r"\A(SELECT .*;\n){7}\nsliced_columns\.bw settled "
-                                             r"10\d\d of \d+ segments that have no such rows\n")
+                                             r"10\d\d of \d+ segments whose rows needn't be read\n")
