@@ -1,14 +1,15 @@
 """Times statements in sessions over a file by columns, which keep the least and the greatest value
-of each column in each group of 2,048 rows, beside sessions over a table file, which keep none.
+in each group of 2,048 rows of columns whose groups differ, beside sessions over a table file, which
+keep none.
 
 Column s is sorted, d are days in order, and k comes in runs of 4,096 rows that begin anywhere; n is
-s with nulls; r and a are random. In each run the sessions are started anew, read all columns, and
-take turns. Each statement is asked with numbers that the session never had, and then once more, and
-so for other numbers; all sessions get the same ones, and must answer alike. The share of segments
-is shown that ranges settle, so that a session doesn't scan them, as --stats reports it. Then follow
-the time from the start of a session to its first answer, which needs all columns, and its peak
-memory. --beside PROGRAM compares with another build of bw over the same file by columns, instead of
-by rows."""
+s with nulls. Columns r and a are random, so no ranges are kept of them. In each run the sessions
+are started anew, read all columns, and take turns. Each statement is asked with numbers that the
+session never had, and then once more, and so for other numbers; all sessions get the same ones, and
+must answer alike. The share of segments is shown that ranges settle, so that a session doesn't scan
+them, as --stats reports it. Then follow the time from the start of a session to its first answer,
+which needs all columns, and its peak memory. --beside PROGRAM compares with another build of bw
+over the same file by columns, instead of by rows."""
 from __future__ import annotations
 
 import argparse
